@@ -1,11 +1,9 @@
 -- Whether a barrier half may be answered, where the barriers of its port stand.
 use Rattle.std.proofs.Common.{◌≡◌, ◌⊎◌, ℕ, zero, suc, ◌-◌, ◌<◌, Bool, true, false, not, ◌&&◌, ◌||◌, nat_eq, List, [], ◌∷◌, ◌++◌, length, map, slice_get, Option, Some, None, refl, sym, ap, subst, ◌∙◌, arith, inl, inr}
-use Rattle.std.specs.Option.{option_map}
+use Rattle.ace_sysck.proofs.Terms.{option_map, Read, Write, Transaction, Channel, Trace, at_point, is_some_and, issued, Pair, barriers, option_filter, is_barrier_of, pairs, pair_of, number_of, place_of, is_barrier_half, may_answer, is_completed, is_ordered, is_pair_complete, more, first_unordered, first_incomplete, is_ordered_by_barriers, OpenPair, Barrier, Idle, ReadHalf, WriteHalf, Open, BarrierStands, IsDone, IsOpen, TellsOpenPair, reads_of, writes_of, open_of, pair_in, may_answer_after, comes_far_enough}
 use Rattle.std.proofs.lemmas.Bool.{cases_Bool, eq-eqb, ne_eqb}
 use Rattle.std.proofs.lemmas.List.{append-nil, length-map}
-use Rattle.ace_event.specs.declared.event.Channel.TheVariants.{Read, Write}
-use Rattle.ace_model.specs.declared.transactions.Transaction.{Transaction}
-use Rattle.ace_model.proofs.Terms.{Channel, Trace, at_point, is_some_and, issued, Pair, barriers, option_filter, is_barrier_of, pairs, pair_of, number_of, place_of, is_barrier_half, may_answer, is_completed, is_ordered, is_pair_complete, more}
+use Rattle.std.proofs.lemmas.Option.{slice_get_past}
 use Rattle.ace_model.proofs.Barriers.Pairs.{IsHalf, barriers-half, is_barrier_of-is}
 use Rattle.ace_model.proofs.Trace.Growth.{IsIssued, issued-cases, at_point-before}
 use Rattle.ace_model.proofs.Trace.Issued.{issued_at, issued-place}
@@ -13,13 +11,8 @@ use Rattle.ace_model.proofs.Trace.Places.{at_point-last}
 use Rattle.ace_model.proofs.Trace.Looks.{same_channel-self}
 use Rattle.ace_model.proofs.General.Options.{Some-injective}
 use Rattle.ace_model.proofs.General.Lists.{slice_get-at_end, slice_get-grown, slice_get-append, slice_get-all, slice_get-more}
-use Rattle.ace_portck.specs.Targets.{first_unordered, first_incomplete, is_ordered_by_barriers}
-use Rattle.ace_sysck.specs.declared.barriers.OpenPair.{OpenPair}
-use Rattle.ace_sysck.specs.declared.barriers.Barrier.{Barrier}
-use Rattle.ace_sysck.specs.declared.barriers.Barrier.TheVariants.{Idle, ReadHalf, WriteHalf, Open}
-use Rattle.ace_sysck.specs.Barriers.{BarrierStands, IsDone, IsOpen, TellsOpenPair, reads_of, writes_of, open_of, pair_in, may_answer_after, comes_far_enough}
 use Rattle.ace_sysck.proofs.FirstIssued.{each-before}
-use Rattle.ace_sysck.proofs.BarrierRules.{pairs-of, past_end}
+use Rattle.ace_sysck.proofs.BarrierRules.{pairs-of}
 
 -- a barrier half of the trace stands among its port's at its number
 pub half-there : (past : Trace) (x : Transaction) → IsIssued past x → is_barrier_half x ≡ true
@@ -113,7 +106,7 @@ module _ (past : Trace) (x : Transaction) (u n : Option ℕ) (i : IsIssued past 
 
   -- where it is the open half on its channel, whose partner wasn't issued
   alone-may : (b : Barrier) (s : BarrierStands past x.port b) → number_of past x ≡ length s.done → pairs past x.port ≡ s.done ++ [] → is_some_and (pair_of past x) (may_answer past x.port) ≡ false
-  alone-may b s at none = ap (λ o. is_some_and o (may_answer past x.port)) (ap (λ l. slice_get l (number_of past x)) (none ∙ append-nil s.done) ∙ past_end s.done (number_of past x) (omega arith))
+  alone-may b s at none = ap (λ o. is_some_and o (may_answer past x.port)) (ap (λ l. slice_get l (number_of past x)) (none ∙ append-nil s.done) ∙ slice_get_past s.done (number_of past x) (omega arith))
 
   -- where it is a half of the open pair
   open-may : (o : OpenPair) (s : BarrierStands past x.port (Open o)) → number_of past x ≡ length s.done → is_some_and (pair_of past x) (may_answer past x.port) ≡ comes_far_enough o u n
@@ -130,8 +123,8 @@ module _ (past : Trace) (x : Transaction) (u n : Option ℕ) (i : IsIssued past 
         | inr at ↦ inr (ap (λ n. slice_get (halves_on x.chan b) (number_of past x - n)) (sym m) ∙ at)
       ]
 
-  pub answer-is : (b : Barrier) → BarrierStands past x.port b → is_some_and (pair_of past x) (may_answer past x.port) ≡ may_answer_after b u n x
-  answer-is b s = elim (where-is b s) [
+  pub answer_is : (b : Barrier) → BarrierStands past x.port b → is_some_and (pair_of past x) (may_answer past x.port) ≡ may_answer_after b u n x
+  answer_is b s = elim (where-is b s) [
     | inl low ↦ done-may b s low ∙ sym (off b s low)
     | inr at ↦ on x.chan refl b s at
   ]
@@ -184,8 +177,8 @@ done-and-open past p (ReadHalf x) s = pairs-of past p (ReadHalf x) s ∙ append-
 done-and-open past p (WriteHalf x) s = pairs-of past p (WriteHalf x) s ∙ append-nil s.done
 done-and-open past p (Open o) s = pairs-of past p (Open o) s
 
-pub tells-open : (past : Trace) (p : ℕ) (b : Barrier) → BarrierStands past p b → TellsOpenPair past p (open_of b)
-tells-open past p b s = record { there = there b s; is = is b s; only = only }
+pub tells_open : (past : Trace) (p : ℕ) (b : Barrier) → BarrierStands past p b → TellsOpenPair past p (open_of b)
+tells_open past p b s = record { there = there b s; is = is b s; only = only }
   where
     there : (b : Barrier) → BarrierStands past p b → (o : OpenPair) → open_of b ≡ Some o → (k : ℕ) × (slice_get (pairs past p) k ≡ Some (pair_in o))
     there (Open u) s o e =

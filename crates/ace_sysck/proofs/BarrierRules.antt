@@ -1,23 +1,16 @@
 -- What the rules on barriers say where the barriers of a port stand.
-use Rattle.std.proofs.Common.{◌≡◌, ℕ, zero, suc, ◌+◌, ◌≤◌, Bool, true, false, not, ◌&&◌, ◌||◌, nat_eq, nat_le, nat_lt, List, [], ◌∷◌, ◌++◌, length, map, slice_get, Some, None, refl, sym, ap, ◌∙◌, arith, inl, inr, length-append}
-use Rattle.std.specs.List.{All, list_all}
+use Rattle.std.proofs.Common.{◌≡◌, ℕ, ◌+◌, Bool, true, false, not, ◌&&◌, ◌||◌, nat_eq, nat_le, nat_lt, List, [], ◌∷◌, ◌++◌, length, map, slice_get, Some, refl, sym, ap, ◌∙◌, arith, inl, inr, length-append}
+use Rattle.ace_sysck.proofs.Terms.{All, list_all, Read, Write, Transaction, Channel, Trace, at_point, implies, is_none_or, is_read, Pair, barriers, paired, pairs, number_of, place_of, is_pair_complete, is_past_barriers, is_completed, other_channel, are_complete, begins_barrier, is_like_half, OpenPair, Barrier, Idle, ReadHalf, WriteHalf, Open, BarrierStands, IsDone, reads_of, writes_of, read_half, write_half, pair_in, begins_after, is_past}
 use Rattle.std.proofs.lemmas.Bool.{cases_Bool, cases_lt, and_from, and_left, and_right, le-leb, lt-leb, lt-ltb, le-ltb}
 use Rattle.std.proofs.lemmas.List.{append-nil, length-map, take_at, take_all}
+use Rattle.std.proofs.lemmas.Option.{slice_get_past}
 use Rattle.std.proofs.lemmas.List.Elements.{All-weaker}
 use Rattle.std.proofs.lemmas.List.Folds.{list_all-append}
 use Rattle.std.proofs.lemmas.List.Sums.{list_all-from_AllPass}
-use Rattle.ace_event.specs.declared.event.Channel.TheVariants.{Read, Write}
-use Rattle.ace_model.specs.declared.transactions.Transaction.{Transaction}
-use Rattle.ace_model.proofs.Terms.{Channel, Trace, at_point, implies, is_none_or, is_read, Pair, barriers, paired, pairs, number_of, place_of, is_pair_complete, is_past_barriers, is_completed}
-use Rattle.ace_model.specs.Barriers.{other_channel}
-use Rattle.ace_model.specs.AddressRules.{are_complete, begins_barrier, is_like_half}
+use Rattle.std.proofs.Math.Bool.{and-true}
 use Rattle.ace_model.proofs.Trace.Growth.{at_point-end}
 use Rattle.ace_model.proofs.Trace.Looks.{is_read-is, is_write-is}
 use Rattle.ace_model.proofs.General.Lists.{slice_get-at_end}
-use Rattle.ace_sysck.specs.declared.barriers.OpenPair.{OpenPair}
-use Rattle.ace_sysck.specs.declared.barriers.Barrier.{Barrier}
-use Rattle.ace_sysck.specs.declared.barriers.Barrier.TheVariants.{Idle, ReadHalf, WriteHalf, Open}
-use Rattle.ace_sysck.specs.Barriers.{BarrierStands, IsDone, reads_of, writes_of, read_half, write_half, pair_in, begins_after, is_past}
 
 paired-done : (done : List Pair) (rs ws : List Transaction) → paired (map read_half done ++ rs) (map write_half done ++ ws) ≡ done ++ paired rs ws
 paired-done [] rs ws = refl
@@ -62,12 +55,6 @@ complete-open past p n done b is open_still count =
     ∙ list_all-append (is_pair_complete past) done (b ∷ [])
     ∙ and_right (list_all (is_pair_complete past) done) (list_all (is_pair_complete past) (b ∷ [])) (ap (λ v. v && true) open_still)))
 
--- nothing stands past the end of a list
-pub past_end : {A : Type 0} → (xs : List A) (n : ℕ) → length xs ≤ n → slice_get xs n ≡ None
-past_end [] n low = refl
-past_end (x ∷ xs) zero low = absurd (omega arith)
-past_end (x ∷ xs) (suc n) low = past_end xs n (omega arith)
-
 and_grouped : (a b c d : Bool) → (b && c) ≡ d → (a && b && c) ≡ (a && d)
 and_grouped true b c d e = e
 and_grouped false b c d e = refl
@@ -86,7 +73,7 @@ module _ (past : Trace) (p : ℕ) (x : Transaction) where
   begins-read Idle s n count chan =
       let c = count-reads past p Idle s in
       let w = count-writes past p Idle s in
-      rw (complete-done past p n s.done [] s.are_done (pairs-of past p Idle s) (omega arith), past_end (barriers past p Write) n (omega arith)) refl
+      rw (complete-done past p n s.done [] s.are_done (pairs-of past p Idle s) (omega arith), slice_get_past (barriers past p Write) n (omega arith)) refl
   begins-read (ReadHalf y) s n count chan =
       let c = count-reads past p (ReadHalf y) s in
       rw (complete-beyond past p n s.done (pairs-of past p (ReadHalf y) s) (omega arith), chan) refl
@@ -103,7 +90,7 @@ module _ (past : Trace) (p : ℕ) (x : Transaction) where
   begins-write Idle s n count chan =
       let c = count-writes past p Idle s in
       let w = count-reads past p Idle s in
-      rw (complete-done past p n s.done [] s.are_done (pairs-of past p Idle s) (omega arith), past_end (barriers past p Read) n (omega arith)) refl
+      rw (complete-done past p n s.done [] s.are_done (pairs-of past p Idle s) (omega arith), slice_get_past (barriers past p Read) n (omega arith)) refl
   begins-write (WriteHalf y) s n count chan =
       let c = count-writes past p (WriteHalf y) s in
       rw (complete-beyond past p n s.done (pairs-of past p (WriteHalf y) s) (omega arith), chan) refl
@@ -117,9 +104,9 @@ module _ (past : Trace) (p : ℕ) (x : Transaction) where
       rw (complete-open past p n s.done (pair_in b) (pairs-of past p (Open b) s) (open_pair past p b s) (omega arith)) refl
 
 -- K9's part on barriers
-pub begins-is : (past : Trace) (x : Transaction) (b : Barrier) → BarrierStands past x.port b → x.place ≡ length past
+pub begins_is : (past : Trace) (x : Transaction) (b : Barrier) → BarrierStands past x.port b → x.place ≡ length past
     → begins_barrier past x ≡ (nat_eq x.addr 0 && begins_after b x)
-begins-is past x b s place =
+begins_is past x b s place =
     let now : at_point x.place past ≡ past = at_point-end past x.place place in
     and_grouped (nat_eq x.addr 0) _ _ (begins_after b x) (elim (cases_Bool (is_read x.chan)) [
       | inl t ↦
@@ -150,8 +137,8 @@ comes_later n m =
     ]
 
 -- K35
-pub past-is : (past : Trace) (x : Transaction) (b : Barrier) → BarrierStands past x.port b → is_past_barriers past x ≡ is_past b x
-past-is past x b s = rw (pairs-of past x.port b s, list_all-append test s.done (paired (reads_of b) (writes_of b)), all_pass past x.port test s.done s.are_done (λ d k. implied (nat_lt (place_of d) x.place) (is_pair_complete past d) k.complete)) (by b s)
+pub past_is : (past : Trace) (x : Transaction) (b : Barrier) → BarrierStands past x.port b → is_past_barriers past x ≡ is_past b x
+past_is past x b s = rw (pairs-of past x.port b s, list_all-append test s.done (paired (reads_of b) (writes_of b)), all_pass past x.port test s.done s.are_done (λ d k. implied (nat_lt (place_of d) x.place) (is_pair_complete past d) k.complete)) (by b s)
   where
     test : Pair → Bool
     test d = implies (nat_lt (place_of d) x.place) (is_pair_complete past d)
@@ -165,7 +152,3 @@ past-is past x b s = rw (pairs-of past x.port b s, list_all-append test s.done (
     by (ReadHalf y) s = ordered (nat_eq x.bar 0)
     by (WriteHalf y) s = ordered (nat_eq x.bar 0)
     by (Open o) s = rw (open_pair past x.port o s) (ap (λ v. not (nat_eq x.bar 0) || v) (and-true _ ∙ comes_later (place_of (pair_in o)) x.place))
-      where
-        and-true : (v : Bool) → (v && true) ≡ v
-        and-true true = refl
-        and-true false = refl

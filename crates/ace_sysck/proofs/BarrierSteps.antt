@@ -1,14 +1,9 @@
 -- The barriers, event by event.
-use Rattle.std.proofs.Common.{◌≡◌, ◌⊎◌, ℕ, ◌<◌, Bool, true, false, not, ◌&&◌, ◌||◌, nat_eq, nat_lt, if◌then◌else◌, List, [], ◌∷◌, ◌++◌, length, map, get_or, slice_set, Option, Some, None, refl, sym, ap, subst, ◌∙◌, arith, inl, inr, length-set}
-use Rattle.std.specs.List.{All}
+use Rattle.std.proofs.Common.{◌≡◌, ◌⊎◌, ℕ, ◌<◌, Bool, true, false, not, ◌&&◌, ◌||◌, nat_eq, nat_lt, if◌then◌else◌, List, [], ◌∷◌, ◌++◌, length, map, get_or, replicate, slice_set, Option, Some, None, refl, sym, ap, subst, ◌∙◌, arith, inl, inr, length-set, append_assoc}
+use Rattle.ace_sysck.proofs.Terms.{option_to_list, reads_of, writes_of, All, Read, Write, Transaction, Channel, Header, Event, Ar, Aw, R, B, G, M, Trace, transaction_of, more, implies, is_some_and, is_none_or, is_read, same_channel, issued, Pair, barriers, option_filter, is_barrier_of, place_of, is_barrier_half, may_answer, is_awaited, is_before, is_synchronisation, is_completed, is_transaction, served_by, has_had, is_completion_event, outstanding, begins_well, may_answer_half, k34, IsAccepted, begins_barrier, port_of, Target, Recording, after, target_of, first_unordered, first_incomplete, OpenPair, Barrier, Idle, ReadHalf, WriteHalf, Open, Barriers, begun_in, completed_in, BarriersStand, BarrierStands, IsDone, IsUnderWay, read_half, write_half, pair_in, begins_after, joined, may_answer_after}
 use Rattle.std.proofs.lemmas.Bool.{cases_Bool, cases_eq, and_parts, and_from, and_right, or_right, or_cases, eqb-true, eq-eqb, ne_eqb, le-ltb}
-use Rattle.std.proofs.lemmas.List.{append-nil, map-append}
+use Rattle.std.proofs.lemmas.List.{length-replicate, append-nil, map-append}
 use Rattle.std.proofs.lemmas.List.Elements.{All-nil, All-weaker, All-push}
-use Rattle.ace_event.specs.declared.event.Channel.TheVariants.{Read, Write}
-use Rattle.ace_model.specs.declared.transactions.Transaction.{Transaction}
-use Rattle.ace_model.proofs.Terms.{Channel, Header, Event, Ar, Aw, R, B, G, M, Trace, transaction_of, more, implies, is_some_and, is_none_or, is_read, same_channel, issued, Pair, barriers, option_filter, is_barrier_of, place_of, is_barrier_half, may_answer, is_awaited, is_before, is_synchronisation, is_completed, is_transaction, served_by, has_had, is_completion_event, outstanding, begins_well, may_answer_half, k34, IsAccepted}
-use Rattle.ace_model.specs.AddressRules.{begins_barrier}
-use Rattle.ace_model.specs.Trace.{port_of}
 use Rattle.ace_model.proofs.Rules.Keeps.{accepted_keeps}
 use Rattle.ace_model.proofs.Barriers.OrderPoints.{is_ordered-later}
 use Rattle.ace_model.proofs.Barriers.Pairs.{is_barrier_of-is}
@@ -16,25 +11,20 @@ use Rattle.ace_model.proofs.Trace.Growth.{IsIssued, issued-cases, each_issued-at
 use Rattle.ace_model.proofs.Trace.Issued.{issued_at, issued-place, transaction_of-stands}
 use Rattle.ace_model.proofs.General.Options.{Some-injective, is_none_or-at}
 use Rattle.ace_model.proofs.General.Booleans.{implies-at}
-use Rattle.ace_portck.specs.Target.{Target}
-use Rattle.ace_portck.specs.Targets.{Recording, after, target_of, first_unordered, first_incomplete}
-use Rattle.ace_sysck.specs.declared.barriers.OpenPair.{OpenPair}
-use Rattle.ace_sysck.specs.declared.barriers.Barrier.{Barrier}
-use Rattle.ace_sysck.specs.declared.barriers.Barrier.TheVariants.{Idle, ReadHalf, WriteHalf, Open}
-use Rattle.ace_sysck.specs.declared.barriers.Barriers.{Barriers}
-use Rattle.ace_sysck.specs.Events.{begun_in, completed_in}
-use Rattle.ace_sysck.specs.Barriers.{BarriersStand, BarrierStands, IsDone, IsUnderWay, read_half, write_half, pair_in, begins_after, joined, answered, may_answer_after}
-use Rattle.ace_sysck.proofs.Tables.{set_at}
+use Rattle.ace_sysck.specs.Barriers.{answered}
+use Rattle.ace_sysck.proofs.Tables.{entries_set, repeated}
 use Rattle.ace_sysck.proofs.Steps.{port_within}
 use Rattle.ace_sysck.proofs.EventLaws.{responding, responds-at, Completes, completes-at, completes-none, begun-is}
 use Rattle.ace_sysck.proofs.FirstIssued.{each-from}
-use Rattle.ace_sysck.proofs.BarrierRules.{begins-is}
-use Rattle.ace_sysck.proofs.BarrierAnswers.{halves_on, current, come-is, answer-is}
+use Rattle.ace_sysck.proofs.BarrierRules.{begins_is}
+use Rattle.ace_sysck.proofs.BarrierAnswers.{halves_on, current, come-is, answer_is}
 
 -- the barriers of the empty trace
-pub barriers_fresh : (h : Header) (s : Barriers) → length s.ports.items ≡ h.ports → ((p : ℕ) → get_or s.ports.items p Idle ≡ Idle)
-    → BarriersStand (record { header = h; past = [] }) s
-barriers_fresh h s size idle = record { size = size; ports = λ p. subst (BarrierStands [] p) (sym (idle p)) (none p) }
+pub barriers_fresh : (h : Header) (s : Barriers) → s.ports.items ≡ replicate h.ports Idle → BarriersStand (record { header = h; past = [] }) s
+barriers_fresh h s is = record {
+  size = ap length is ∙ length-replicate h.ports Idle;
+  ports = λ p. subst (BarrierStands [] p) (sym (ap (λ xs. get_or xs p Idle) is ∙ repeated h.ports p Idle)) (none p);
+}
   where
     none : (p : ℕ) → BarrierStands [] p Idle
     none p = record { done = []; reads = refl; writes = refl; are_done = All-nil (IsDone [] p); under_way = tt }
@@ -137,10 +127,6 @@ issue-hits past (R p i resp last word) x y new = cc
 issue-hits past (B p i resp) x y new = cc
 issue-hits past e x y new = refl
 
--- one more after a list and nothing
-push_nil : {A : Type 0} → (xs : List A) (x : A) → xs ++ [] ++ x ∷ [] ≡ xs ++ x ∷ []
-push_nil xs x = ap (λ l. l ++ x ∷ []) (append-nil xs)
-
 -- a half of the port that its barrier lets begin joins it
 module _ (past : Trace) (e : Event) (x : Transaction) (new : issued (length past) e ≡ Some x) (half : is_barrier_half x ≡ true) where
   joins : (c : Channel) → option_filter (λ y. is_barrier_of y x.port c) (issued (length past) e) ≡ (if same_channel x.chan c then Some x else None)
@@ -152,38 +138,39 @@ module _ (past : Trace) (e : Event) (x : Transaction) (new : issued (length past
   kept : (y : Transaction) → is_completed past y ≡ false → is_completed (e ∷ past) y ≡ false
   kept y was = rw (issue-hits past e x y new) was
 
-  joined_on : (c d : Channel) → x.chan ≡ d → option_filter (λ y. is_barrier_of y x.port c) (issued (length past) e) ≡ (if same_channel d c then Some x else None)
-  joined_on c d chan = joins c ∙ ap (λ v. if same_channel v c then Some x else None) chan
+  -- its halves with one more on the channel of the half
+  grows : (b n : Barrier) → (reads_of n ≡ reads_of b ++ option_to_list (if same_channel x.chan Read then Some x else None))
+      → (writes_of n ≡ writes_of b ++ option_to_list (if same_channel x.chan Write then Some x else None)) → IsUnderWay (e ∷ past) n
+      → BarrierStands past x.port b → BarrierStands (e ∷ past) x.port n
+  grows b n reads writes under_way s = record {
+    done = s.done;
+    reads = more_on Read (map read_half s.done) (reads_of b) s.reads ∙ ap (λ l. map read_half s.done ++ l) (sym reads);
+    writes = more_on Write (map write_half s.done) (writes_of b) s.writes ∙ ap (λ l. map write_half s.done ++ l) (sym writes);
+    are_done = all-stay past e x.port s.done s.are_done;
+    under_way = under_way;
+  }
+    where
+      more-is : (xs : List Transaction) (o : Option Transaction) → more xs o ≡ xs ++ option_to_list o
+      more-is xs None = sym (append-nil xs)
+      more-is xs (Some y) = refl
+
+      more_on : (c : Channel) (xs ys : List Transaction) → barriers past x.port c ≡ xs ++ ys
+          → barriers (e ∷ past) x.port c ≡ xs ++ (ys ++ option_to_list (if same_channel x.chan c then Some x else None))
+      more_on c xs ys was =
+          ap (more (barriers past x.port c)) (joins c) ∙ more-is (barriers past x.port c) (if same_channel x.chan c then Some x else None)
+          ∙ ap (λ l. l ++ option_to_list (if same_channel x.chan c then Some x else None)) was ∙ append_assoc xs ys (option_to_list (if same_channel x.chan c then Some x else None))
 
   barrier_joins : (b : Barrier) (c : Channel) → x.chan ≡ c → begins_after b x ≡ true → BarrierStands past x.port b → BarrierStands (e ∷ past) x.port (joined b x)
-  barrier_joins Idle Read chan begins s = subst (BarrierStands (e ∷ past) x.port) (sym (ap (λ c. if is_read c then ReadHalf x else WriteHalf x) chan)) (record {
-    done = s.done;
-    reads = ap (more (barriers past x.port Read)) (joined_on Read Read chan) ∙ ap (λ l. l ++ x ∷ []) s.reads ∙ push_nil (map read_half s.done) x;
-    writes = ap (more (barriers past x.port Write)) (joined_on Write Read chan) ∙ s.writes;
-    are_done = all-stay past e x.port s.done s.are_done;
-    under_way = fresh;
-  })
-  barrier_joins Idle Write chan begins s = subst (BarrierStands (e ∷ past) x.port) (sym (ap (λ c. if is_read c then ReadHalf x else WriteHalf x) chan)) (record {
-    done = s.done;
-    reads = ap (more (barriers past x.port Read)) (joined_on Read Write chan) ∙ s.reads;
-    writes = ap (more (barriers past x.port Write)) (joined_on Write Write chan) ∙ ap (λ l. l ++ x ∷ []) s.writes ∙ push_nil (map write_half s.done) x;
-    are_done = all-stay past e x.port s.done s.are_done;
-    under_way = fresh;
-  })
-  barrier_joins (ReadHalf y) Write chan begins s = subst (BarrierStands (e ∷ past) x.port) (sym (ap (λ c. if is_read c then ReadHalf y else Open (record { read = y; write = x; read_answered = false; write_answered = false })) chan)) (record {
-    done = s.done;
-    reads = ap (more (barriers past x.port Read)) (joined_on Read Write chan) ∙ s.reads;
-    writes = ap (more (barriers past x.port Write)) (joined_on Write Write chan) ∙ ap (λ l. l ++ x ∷ []) s.writes ∙ push_nil (map write_half s.done) x;
-    are_done = all-stay past e x.port s.done s.are_done;
-    under_way = record { read = kept y s.under_way; write = fresh; open_still = refl };
-  })
-  barrier_joins (WriteHalf y) Read chan begins s = subst (BarrierStands (e ∷ past) x.port) (sym (ap (λ c. if is_read c then Open (record { read = x; write = y; read_answered = false; write_answered = false }) else WriteHalf y) chan)) (record {
-    done = s.done;
-    reads = ap (more (barriers past x.port Read)) (joined_on Read Read chan) ∙ ap (λ l. l ++ x ∷ []) s.reads ∙ push_nil (map read_half s.done) x;
-    writes = ap (more (barriers past x.port Write)) (joined_on Write Read chan) ∙ s.writes;
-    are_done = all-stay past e x.port s.done s.are_done;
-    under_way = record { read = fresh; write = kept y s.under_way; open_still = refl };
-  })
+  barrier_joins Idle Read chan begins s =
+      let read : is_read x.chan ≡ true = ap is_read chan in grows Idle (joined Idle x) (rw chan refl) (rw chan refl) (rw read fresh) s
+  barrier_joins Idle Write chan begins s =
+      let write : is_read x.chan ≡ false = ap is_read chan in grows Idle (joined Idle x) (rw chan refl) (rw chan refl) (rw write fresh) s
+  barrier_joins (ReadHalf y) Write chan begins s =
+      let write : is_read x.chan ≡ false = ap is_read chan in
+      grows (ReadHalf y) (joined (ReadHalf y) x) (rw chan refl) (rw chan refl) (rw write (record { read = kept y s.under_way; write = fresh; open_still = refl })) s
+  barrier_joins (WriteHalf y) Read chan begins s =
+      let read : is_read x.chan ≡ true = ap is_read chan in
+      grows (WriteHalf y) (joined (WriteHalf y) x) (rw chan refl) (rw chan refl) (rw read (record { read = fresh; write = kept y s.under_way; open_still = refl })) s
   barrier_joins (ReadHalf y) Read chan begins s = let bad : false ≡ true = rw chan at begins in cc
   barrier_joins (WriteHalf y) Write chan begins s = let bad : false ≡ true = rw chan at begins in cc
   barrier_joins (Open o) c chan begins s = cc
@@ -262,7 +249,7 @@ module _ (h : Header) (past : Trace) (e : Event) (t : Target) (x : Transaction) 
   may-be b s half =
       let k = is_none_or-at (responding h past e) (may_answer_half past) x (sym (k34-is h past e) ∙ (accepted_keeps h past e d.accepted).rule_34) d.completes.answers in
       let a = awaits-at h past e t x d.own d.completes.answers half in
-      sym (answer-is past x t.unordered t.incomplete there half a.unordered a.incomplete b s) ∙ implies-at (is_barrier_half x) _ k half
+      sym (answer_is past x t.unordered t.incomplete there half a.unordered a.incomplete b s) ∙ implies-at (is_barrier_half x) _ k half
 
   -- a half alone isn't answered
   alone : (b : Barrier) (s : BarrierStands past x.port b) (c : Channel) (y : Transaction) → halves_on c b ≡ y ∷ [] → may_answer_after b t.unordered t.incomplete x ≡ not (nat_eq x.place y.place)
@@ -356,13 +343,8 @@ barriers_set : (r : Recording) (s n : Barriers) (e : Event) (q : ℕ) (v : Barri
 barriers_set r s n e q v stands within items new others = record {
   size = ap length items ∙ length-set s.ports.items q v ∙ stands.size;
   ports = λ p.
-      let low : q < length s.ports.items = let k = stands.size in omega arith in
-      subst (BarrierStands (e ∷ r.past) p) (sym (ap (λ xs. get_or xs p Idle) items ∙ set_at s.ports.items q p v Idle low)) (by p (cases_eq q p));
+      entries_set (BarrierStands r.past) (BarrierStands (e ∷ r.past)) s.ports.items n.ports.items q r.header.ports v Idle stands.size within items new others p (stands.ports p);
 }
-  where
-    by : (p : ℕ) → (q ≡ p) ⊎ (q ≡ p → ⊥) → BarrierStands (e ∷ r.past) p (if nat_eq q p then v else get_or s.ports.items p Idle)
-    by p (inl same) = rw (eq-eqb q p same) (subst (λ m. BarrierStands (e ∷ r.past) m v) same new)
-    by p (inr off) = rw (ne_eqb q p off) (others p (get_or s.ports.items p Idle) off (stands.ports p))
 
 -- a transaction is no half of another port, and none where it is no half
 no_half : (x : Transaction) (p : ℕ) (c : Channel) → (is_barrier_half x && nat_eq x.port p) ≡ false → option_filter (λ y. is_barrier_of y p c) (Some x) ≡ None
@@ -390,7 +372,7 @@ barriers_begun r s n e t x accepted own begun half stands items =
     begins =
         let well = is_none_or-at (issued (length r.past) e) (begins_well r.past) x (accepted_keeps r.header r.past e accepted).rule_9 new in
         let barrier = implies-at (is_barrier_half x) (begins_barrier r.past x) (and_parts (implies (is_barrier_half x) (begins_barrier r.past x)) _ (and_parts (implies (is_barrier_half x) (begins_barrier r.past x) && _) _ well).0).0 half in
-        (and_parts (nat_eq x.addr 0) (begins_after b x) (sym (begins-is r.past x b (stands.ports x.port) (issued-place (length r.past) e x new)) ∙ barrier)).1
+        (and_parts (nat_eq x.addr 0) (begins_after b x) (sym (begins_is r.past x b (stands.ports x.port) (issued-place (length r.past) e x new)) ∙ barrier)).1
 
     joins_own : BarrierStands (e ∷ r.past) x.port (joined b x)
     joins_own = barrier_joins r.past e x new half b x.chan refl begins (stands.ports x.port)

@@ -1,18 +1,11 @@
 -- The transaction of an event's own target.
 use Rattle.std.proofs.Common.{◌≡◌, true, false, ◌&&◌, nat_eq, ◌∷◌, length, Option, Some, None, refl, sym, ap, ◌∙◌}
-use Rattle.std.specs.Option.{option_map}
+use Rattle.ace_sysck.proofs.Terms.{option_map, Read, Write, Transaction, Event, Ar, Aw, R, B, Header, Trace, is_transaction, issued, outstanding, served_by, is_completion_event, is_due, may_respond, IsAccepted, port_of, Target, target_of, progress_of, begun, own_of, carried, begun_in, responded_in, completed_in}
 use Rattle.std.proofs.lemmas.Bool.{and_parts}
-use Rattle.ace_event.specs.declared.event.Channel.TheVariants.{Read, Write}
-use Rattle.ace_model.specs.declared.transactions.Transaction.{Transaction}
-use Rattle.ace_model.proofs.Terms.{Event, Ar, Aw, R, B, Header, Trace, is_transaction, issued, outstanding, served_by, is_completion_event, is_due, may_respond, IsAccepted}
-use Rattle.ace_model.specs.Trace.{port_of}
 use Rattle.ace_model.proofs.Rules.Keeps.{accepted_keeps}
 use Rattle.ace_model.proofs.General.Options.{is_some_and-is}
 use Rattle.ace_model.proofs.Trace.Issued.{outstanding-named, outstanding-name}
 use Rattle.ace_model.proofs.Trace.Growth.{IsIssued, named-issued}
-use Rattle.ace_portck.specs.Target.{Target}
-use Rattle.ace_portck.specs.Targets.{target_of, progress_of, begun}
-use Rattle.ace_sysck.specs.Events.{own_of, carried, begun_in, responded_in, completed_in}
 
 carried-begun : (o : Option Transaction) → option_map own_of (option_map begun o) ≡ o
 carried-begun None = refl
@@ -33,10 +26,10 @@ responding h past (R p i resp last word) = outstanding h past p Read i
 responding h past (B p i resp) = outstanding h past p Write i
 responding h past _ = None
 
-pub responded-is : (h : Header) (past : Trace) (e : Event) (t : Target) → t ≡ target_of h past e → responded_in e t ≡ responding h past e
-responded-is h past (R p i resp last word) t own = ap carried own ∙ carried-progress h past (outstanding h past p Read i)
-responded-is h past (B p i resp) t own = ap carried own ∙ carried-progress h past (outstanding h past p Write i)
-responded-is h past e t own = refl
+pub responded_is : (h : Header) (past : Trace) (e : Event) (t : Target) → t ≡ target_of h past e → responded_in e t ≡ responding h past e
+responded_is h past (R p i resp last word) t own = ap carried own ∙ carried-progress h past (outstanding h past p Read i)
+responded_is h past (B p i resp) t own = ap carried own ∙ carried-progress h past (outstanding h past p Write i)
+responded_is h past e t own = refl
 
 -- what is answered was issued, by the port of the event
 pub record Responds (h : Header) (past : Trace) (e : Event) (x : Transaction) : Type 0 where

@@ -1,8 +1,7 @@
 -- What the result under a name says of the transaction that has it, and what a G grants.
 use Rattle.std.proofs.Common.{◌≡◌, ℕ, Bool, true, false, not, ◌&&◌, [], ◌∷◌, length, Option, Some, None, refl, sym, ap, ◌∙◌, inl, inr}
 use Rattle.std.proofs.lemmas.Bool.{cases_Bool, and_parts, and_right}
-use Rattle.ace_model.specs.declared.transactions.Transaction.{Transaction}
-use Rattle.ace_model.proofs.Terms.{Event, G, Read, Header, Trace, is_exclusive_store, transaction_of, outstanding, given, issued, is_named, has_name, passed_at_grant, has_failed, store_result, is_some_and, newer}
+use Rattle.ace_sysck.proofs.Terms.{Transaction, Event, G, Read, Header, Trace, is_exclusive_store, transaction_of, outstanding, given, issued, is_named, has_name, passed_at_grant, has_failed, store_result, is_some_and, newer}
 use Rattle.ace_model.proofs.General.Options.{Some-injective}
 use Rattle.ace_model.proofs.Trace.Looks.{has_name-is, at_name, newest_named-older}
 use Rattle.ace_model.proofs.Trace.Issued.{transaction_of-name, outstanding-named, outstanding-name}
@@ -36,11 +35,11 @@ result-store (e ∷ past) p i x v t r =
         ]
 
 -- the outstanding read under a name is an exclusive store that failed, where the result of the name says so
-pub failed-is : (h : Header) (past : Trace) (p i : ℕ) (x : Transaction) (o : Option Bool) → outstanding h past p Read i ≡ Some x → o ≡ passed_at_grant past p i
+pub failed_is : (h : Header) (past : Trace) (p i : ℕ) (x : Transaction) (o : Option Bool) → outstanding h past p Read i ≡ Some x → o ≡ passed_at_grant past p i
     → is_some_and o not ≡ has_failed past x
-failed-is h past p i x None out is =
+failed_is h past p i x None out is =
     let name = outstanding-name h past p Read i x out in
     rw (name.port, name.id, sym is) (sym (and_right (is_exclusive_store x) false refl))
-failed-is h past p i x (Some v) out is =
+failed_is h past p i x (Some v) out is =
     let name = outstanding-name h past p Read i x out in
     rw (result-store past p i x v (outstanding-named h past p Read i x out) (sym is), name.port, name.id, sym is) refl

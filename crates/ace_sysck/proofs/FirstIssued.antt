@@ -1,13 +1,10 @@
 -- What it says that a transaction is the first of the trace that passes a test.
 use Rattle.std.proofs.Common.{◌≡◌, ℕ, ◌≤◌, Bool, true, false, not, ◌&&◌, nat_lt, if◌then◌else◌, [], ◌∷◌, length, Option, Some, None, refl, sym, ap, subst, ◌∙◌, arith, inl, inr}
 use Rattle.std.proofs.lemmas.Bool.{cases_Bool, cases_lt, and_parts, and_from, le-leb, lt-leb, ltb-true, lt-ltb}
-use Rattle.ace_model.specs.declared.transactions.Transaction.{Transaction}
-use Rattle.ace_model.proofs.Terms.{Trace, Event, implies, is_some_and, issued, some_issued, each_issued}
+use Rattle.ace_sysck.proofs.Terms.{Transaction, Trace, Event, implies, is_some_and, issued, some_issued, each_issued, first_issued, is_awaited_by}
 use Rattle.ace_model.proofs.Trace.Issued.{issued-place}
 use Rattle.ace_model.proofs.Trace.Growth.{IsIssued, issued-new, issued-old, issued-cases, some_issued-is, some_issued-found}
 use Rattle.ace_model.proofs.General.Options.{is_some_and-is}
-use Rattle.ace_portck.specs.Targets.{first_issued}
-use Rattle.ace_sysck.specs.Barriers.{is_awaited_by}
 
 -- what holds of every transaction that was issued holds of each
 pub each-from : (past : Trace) (test : Transaction → Bool) → ((x : Transaction) → IsIssued past x → test x ≡ true) → each_issued past test ≡ true

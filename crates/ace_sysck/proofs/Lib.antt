@@ -1,3 +1,4 @@
+mod Terms
 -- Lists by their places.
 pub mod Tables
 pub mod WordLaws

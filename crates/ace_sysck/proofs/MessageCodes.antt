@@ -1,15 +1,9 @@
 -- A part of a message has ARSNOOP 15, and a DVM Complete has 14.
 use Rattle.std.proofs.Common.{◌≡◌, ℕ, Bool, true, false, nat_eq, if◌then◌else◌, Option, None, Some, refl, sym}
 use Rattle.std.proofs.lemmas.Bool.{and_parts, eqb-true, false_from_ne_true}
-use Rattle.ace_codes.specs.declared.kind.ArKind.{ArKind}
+use Rattle.ace_sysck.proofs.Terms.{ArKind, is_in, ar_kind_of, read_place, reads, is_dvm_message, is_dvm_complete, is_message_part, is_dvm_completion, is_some_and, is_read, read_kind, Transaction}
 use Rattle.ace_codes.specs.declared.kind.ArKind.TheVariants as read
-use Rattle.ace_codes.specs.Places.{is_at, is_in}
-use Rattle.ace_codes.specs.Reads.{ar_kind_of, read_place, reads}
-use Rattle.ace_model.specs.Kinds.{is_dvm_message, is_dvm_complete}
-use Rattle.ace_model.specs.Messages.{is_message_part, is_dvm_completion}
-use Rattle.ace_model.specs.Trace.{is_some_and}
-use Rattle.ace_model.specs.Transactions.{is_read, read_kind}
-use Rattle.ace_model.specs.declared.transactions.Transaction.{Transaction}
+use Rattle.ace_codes.specs.Places.{is_at}
 use Rattle.ace_model.proofs.Outstanding.Issued.{find-some}
 
 -- a kind stands at its place, so a read has the code of its kind

@@ -1,28 +1,23 @@
 -- The messages that the ports issue, event by event.
-use Rattle.std.proofs.Common.{◌≡◌, ◌⊎◌, ℕ, ◌<◌, Bool, true, false, not, ◌&&◌, nat_eq, if◌then◌else◌, [], ◌∷◌, length, get_or, slice_set, Option, Some, None, is_some, refl, sym, ap, subst, ◌∙◌, arith, inl, inr, length-set}
-use Rattle.std.proofs.lemmas.Bool.{cases_Bool, cases_eq, and_right, eq-eqb, ne_eqb}
-use Rattle.ace_model.specs.declared.transactions.Transaction.{Transaction}
-use Rattle.ace_model.proofs.Terms.{Header, Event, Ac, Trace, newer, is_some_and, issued, is_completed, is_message_part, is_sync, is_sync_word, first_waiting, part_in, waits_after, last_sync, sync_in, is_sync_completed, is_part_in_order, IsAccepted, is_complete_snoop, ac_kind_of}
-use Rattle.ace_model.specs.Messages.{completes_sync}
+use Rattle.std.proofs.Common.{◌≡◌, ◌⊎◌, ℕ, ◌<◌, Bool, true, false, not, ◌&&◌, nat_eq, if◌then◌else◌, [], ◌∷◌, length, get_or, replicate, slice_set, Option, Some, None, is_some, refl, sym, ap, subst, ◌∙◌, inl, inr, length-set}
+use Rattle.std.proofs.lemmas.List.{length-replicate}
+use Rattle.std.proofs.lemmas.Bool.{cases_Bool, and_right, eq-eqb, ne_eqb}
+use Rattle.ace_sysck.proofs.Terms.{Transaction, Header, Event, Ac, Trace, newer, is_some_and, issued, is_completed, is_message_part, is_sync, is_sync_word, first_waiting, part_in, waits_after, last_sync, sync_in, is_sync_completed, is_part_in_order, IsAccepted, is_complete_snoop, ac_kind_of, completes_sync, Target, Recording, after, target_of, PortMessages, Messages, begun_in, completed_in, MessagesStand, PortMessagesStand, silent, is_new_sync, part_issued, part_completed, told_complete, is_in_order}
 use Rattle.ace_model.proofs.Dvm.Syncs.{last_sync-is}
 use Rattle.ace_model.proofs.Trace.Growth.{at_point-end}
 use Rattle.ace_model.proofs.Trace.Issued.{issued_at, issued-place}
 use Rattle.ace_model.proofs.General.Options.{Some-injective}
-use Rattle.ace_portck.specs.Target.{Target}
-use Rattle.ace_portck.specs.Targets.{Recording, after, target_of}
-use Rattle.ace_sysck.specs.declared.messages.PortMessages.{PortMessages}
-use Rattle.ace_sysck.specs.declared.messages.Messages.{Messages}
-use Rattle.ace_sysck.specs.Events.{begun_in, completed_in}
-use Rattle.ace_sysck.specs.Messages.{MessagesStand, PortMessagesStand, silent, is_new_sync, part_issued, part_completed, told_complete, is_in_order}
-use Rattle.ace_sysck.proofs.Tables.{set_at}
+use Rattle.ace_sysck.proofs.Tables.{entries_set, repeated}
 use Rattle.ace_sysck.proofs.Steps.{port_within}
 use Rattle.ace_sysck.proofs.EventLaws.{responding, responds-at, completes-at, completes-none, begun-is}
 use Rattle.ace_sysck.proofs.BarrierSteps.{hits, new-incomplete, issue-hits, answers-unissued, issuing-port}
 
 -- what is kept after the empty trace
-pub messages_fresh : (h : Header) (s : Messages) → length s.ports.items ≡ h.ports → ((p : ℕ) → get_or s.ports.items p silent ≡ silent)
-    → MessagesStand (record { header = h; past = [] }) s
-messages_fresh h s size none = record { size = size; ports = λ p. subst (PortMessagesStand [] p) (sym (none p)) (fresh p) }
+pub messages_fresh : (h : Header) (s : Messages) → s.ports.items ≡ replicate h.ports silent → MessagesStand (record { header = h; past = [] }) s
+messages_fresh h s is = record {
+  size = ap length is ∙ length-replicate h.ports silent;
+  ports = λ p. subst (PortMessagesStand [] p) (sym (ap (λ xs. get_or xs p silent) is ∙ repeated h.ports p silent)) (fresh p);
+}
   where
     fresh : (p : ℕ) → PortMessagesStand [] p silent
     fresh p = record { first = refl; sync = refl; sync_done = λ x is. cc; sync_completed = refl }
@@ -118,13 +113,8 @@ messages_set : (r : Recording) (s n : Messages) (e : Event) (q : ℕ) (v : PortM
 messages_set r s n e q v stands within items new others = record {
   size = ap length items ∙ length-set s.ports.items q v ∙ stands.size;
   ports = λ p.
-      let low : q < length s.ports.items = let k = stands.size in omega arith in
-      subst (PortMessagesStand (e ∷ r.past) p) (sym (ap (λ xs. get_or xs p silent) items ∙ set_at s.ports.items q p v silent low)) (by p (cases_eq q p));
+      entries_set (PortMessagesStand r.past) (PortMessagesStand (e ∷ r.past)) s.ports.items n.ports.items q r.header.ports v silent stands.size within items new others p (stands.ports p);
 }
-  where
-    by : (p : ℕ) → (q ≡ p) ⊎ (q ≡ p → ⊥) → PortMessagesStand (e ∷ r.past) p (if nat_eq q p then v else get_or s.ports.items p silent)
-    by p (inl same) = rw (eq-eqb q p same) (subst (λ m. PortMessagesStand (e ∷ r.past) m v) same new)
-    by p (inr off) = rw (ne_eqb q p off) (others p (get_or s.ports.items p silent) off (stands.ports p))
 
 -- an event that issues something is no AC
 issues-no_ac : (past : Trace) (e : Event) (x : Transaction) (p : ℕ) → issued (length past) e ≡ Some x → completes_sync e p ≡ false
@@ -203,14 +193,10 @@ messages_untold r s q addr snoop other stands = record {
 }
 
 pub messages_stay : (r : Recording) (s : Messages) (e : Event) (t : Target) → IsAccepted r.header (e ∷ r.past) → t ≡ target_of r.header r.past e
-    → begun_in e t ≡ None → completed_in e t ≡ None → ((q addr snoop : ℕ) → e ≡ Ac q addr snoop → ⊥) → MessagesStand r s → MessagesStand (after r e) s
-messages_stay r s e t accepted own begun completed not_ac stands =
+    → begun_in e t ≡ None → completed_in e t ≡ None → ((p : ℕ) → completes_sync e p ≡ false) → MessagesStand r s → MessagesStand (after r e) s
+messages_stay r s e t accepted own begun completed no_ac stands =
     let none : issued (length r.past) e ≡ None = sym (begun-is r.header r.past e t own) ∙ begun in record {
       size = stands.size;
-      ports = λ p. stays r.past e p (get_or s.ports.items p silent) (ap (λ o. part_in o p) none) (ap (λ o. sync_in r.past o p) none) (no_ac e not_ac p)
+      ports = λ p. stays r.past e p (get_or s.ports.items p silent) (ap (λ o. part_in o p) none) (ap (λ o. sync_in r.past o p) none) (no_ac p)
           (λ y is. completes-none r.header r.past e t y accepted own completed) (stands.ports p);
     }
-  where
-    no_ac : (d : Event) → ((q addr snoop : ℕ) → d ≡ Ac q addr snoop → ⊥) → (p : ℕ) → completes_sync d p ≡ false
-    no_ac (Ac q addr snoop) other p = absurd (other q addr snoop refl)
-    no_ac d other p = refl

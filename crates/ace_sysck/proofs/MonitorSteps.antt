@@ -1,19 +1,12 @@
 -- The monitors, event by event.
-use Rattle.std.proofs.Common.{◌≡◌, ℕ, ◌<◌, Bool, true, false, not, ◌&&◌, nat_eq, if◌then◌else◌, [], ◌∷◌, length, Option, Some, None, unwrap_or, get_or, slice_set, refl, sym, ap, subst, ◌∙◌, arith, inl, inr, length-set}
-use Rattle.std.specs.Option.{option_map}
+use Rattle.std.proofs.Common.{◌≡◌, ℕ, ◌<◌, Bool, true, false, not, ◌&&◌, nat_eq, if◌then◌else◌, [], ◌∷◌, length, Option, Some, None, unwrap_or, get_or, replicate, slice_set, refl, sym, ap, subst, ◌∙◌, arith, inl, inr, length-set}
+use Rattle.ace_sysck.proofs.Terms.{option_map, Snoop, Transaction, Event, Rk, Wk, Cr, S, L, D, Read, Write, Header, Trace, LineState, is_invalid, is_ace, is_some_and, is_some_on, state_of, is_monitored, is_set_by, Line, acknowledged, answered, answers_line, is_snoop_on, snoops_a_line, is_line, is_in_make_unique, IsAccepted, left_by, port_of, Recording, line_in, line_of, line_of_snoop, progress_of, Monitors, MonitorsStand, is_line_of, kept_after, left_state, after}
+use Rattle.std.proofs.lemmas.List.{length-replicate}
 use Rattle.std.proofs.lemmas.Bool.{cases_Bool, cases_eq, and_parts, eq-eqb, ne_eqb, not-true}
-use Rattle.ace_model.specs.declared.snoops.Snoop.{Snoop}
-use Rattle.ace_model.specs.declared.transactions.Transaction.{Transaction}
-use Rattle.ace_model.proofs.Terms.{Event, Rk, Wk, Cr, S, L, D, Read, Write, Header, Trace, LineState, is_invalid, is_ace, is_some_and, is_some_on, state_of, is_monitored, is_set_by, Line, acknowledged, answered, answers_line, is_snoop_on, snoops_a_line, is_line, is_in_make_unique, IsAccepted}
-use Rattle.ace_model.specs.States.{left_by}
-use Rattle.ace_model.specs.Trace.{port_of}
+use Rattle.std.proofs.Math.Bool.{and-true}
 use Rattle.ace_model.proofs.General.Options.{Some-injective}
 use Rattle.ace_model.proofs.Rules.Keeps.{accepted_keeps}
-use Rattle.ace_portck.specs.Targets.{Recording, line_in, line_of, line_of_snoop, progress_of}
-use Rattle.ace_sysck.specs.declared.monitors.Monitors.{Monitors}
-use Rattle.ace_sysck.specs.Monitors.{MonitorsStand, is_line_of, kept_after, left_state}
-use Rattle.ace_portck.specs.Targets.{after}
-use Rattle.ace_sysck.proofs.Tables.{set_at}
+use Rattle.ace_sysck.proofs.Tables.{repeated, set_at}
 
 -- a port that is monitored for a line holds it
 monitored-held : (h : Header) (past : Trace) (p l : ℕ) → is_monitored h past p l ≡ true → is_invalid (state_of h past p l) ≡ false
@@ -43,25 +36,19 @@ kept-says : (kept line : Option ℕ) (st : LineState) (l : ℕ)
 kept-says None line st l = refl
 kept-says (Some m) line st l =
     elim (cases_eq m l) [
-      | inl same ↦ at_line m l same
+      | inl same ↦ at_line (is_line_of line m) (is_invalid st) refl refl same
       | inr off ↦ elim (cases_Bool (is_invalid st && is_line_of line m)) [
         | inl t ↦ rw (t, ne_eqb m l off) refl
         | inr f ↦ rw (f, ne_eqb m l off) refl
       ]
     ]
   where
-    at_line : (m l : ℕ) → m ≡ l → is_line_of (kept_after (Some m) line st) l ≡ (nat_eq m l && not (is_some_and (if is_line_of line l then Some st else None) is_invalid))
-    at_line m l same =
-        elim (cases_Bool (is_line_of line m)) [
-          | inl t ↦ elim (cases_Bool (is_invalid st)) [
-            | inl i ↦ rw (← same, t, i, eq-eqb m m refl) refl
-            | inr v ↦ rw (← same, t, v, eq-eqb m m refl) refl
-          ]
-          | inr f ↦ elim (cases_Bool (is_invalid st)) [
-            | inl i ↦ rw (← same, f, i, eq-eqb m m refl) refl
-            | inr v ↦ rw (← same, f, v, eq-eqb m m refl) refl
-          ]
-        ]
+    at_line : (on left : Bool) → is_line_of line m ≡ on → is_invalid st ≡ left → m ≡ l
+        → is_line_of (kept_after (Some m) line st) l ≡ (nat_eq m l && not (is_some_and (if is_line_of line l then Some st else None) is_invalid))
+    at_line true true t i same = rw (← same, t, i, eq-eqb m m refl) refl
+    at_line true false t v same = rw (← same, t, v, eq-eqb m m refl) refl
+    at_line false true f i same = rw (← same, f, i, eq-eqb m m refl) refl
+    at_line false false f v same = rw (← same, f, v, eq-eqb m m refl) refl
 
 -- the line of an acknowledge is that of the transaction that it acknowledges, and that of an answer is that of its snoop
 line-of_transaction : (h : Header) (past : Trace) (o : Option Transaction) (l : ℕ) → is_line_of (line_of (option_map (progress_of h past) o)) l ≡ is_some_on o l
@@ -142,25 +129,17 @@ monitors_leave r s t e q line st stands within leaves items =
               ∙ ap (λ o. is_monitored h r.past p l && not (is_some_and o is_invalid)) (leaves.leaves p l)
               ∙ rw (ne_eqb p q (λ s. off (sym s))) (and-true (is_monitored h r.past p l)))
         ]
-      where
-        and-true : (b : Bool) → (b && true) ≡ b
-        and-true true = refl
-        and-true false = refl
 
 -- an event that sets no monitor and leaves no line in I leaves the monitors as they are
-monitors_stay : (r : Recording) (s : Monitors) (e : Event) → ((p l : ℕ) (was : Bool) → is_set_by e p l was ≡ was)
+pub monitors_stay : (r : Recording) (s : Monitors) (e : Event) → ((p l : ℕ) (was : Bool) → is_set_by e p l was ≡ was)
     → ((p l : ℕ) → is_some_and (left_by r.header r.past e p l) is_invalid ≡ false) → MonitorsStand r s → MonitorsStand (after r e) s
 monitors_stay r s e sets_none leaves_none stands = record {
   size = stands.size;
   lines = λ p l.
       let was = is_monitored r.header r.past p l in
       monitored-after r.header r.past e p l (λ t. sym (sets_none p l was) ∙ t)
-      ∙ rw (sets_none p l was, leaves_none p l) (unchanged was) ∙ stands.lines p l;
+      ∙ rw (sets_none p l was, leaves_none p l) (and-true was) ∙ stands.lines p l;
 }
-  where
-    unchanged : (b : Bool) → (b && true) ≡ b
-    unchanged true = refl
-    unchanged false = refl
 
 -- a load that isn't exclusive, and a store that isn't
 pub monitors_load : (r : Recording) (s : Monitors) (q addr w word : ℕ) → MonitorsStand r s → MonitorsStand (after r (L q addr w false word)) s
@@ -217,12 +196,8 @@ monitors_exclusive_load r s t q addr w word accepted stands within items = monit
           | inl same ↦ rw (eq-eqb q p same, eq-eqb p q (sym same)) (at p l same)
           | inr off ↦
               let other : nat_eq p q ≡ false = ne_eqb p q (λ e. off (sym e)) in
-              monitored-after h r.past (L q addr w true word) p l (λ t. rw other at t) ∙ rw (ne_eqb q p off, other) (unchanged (is_monitored h r.past p l))
+              monitored-after h r.past (L q addr w true word) p l (λ t. rw other at t) ∙ rw (ne_eqb q p off, other) (and-true (is_monitored h r.past p l))
         ]
-      where
-        unchanged : (b : Bool) → (b && true) ≡ b
-        unchanged true = refl
-        unchanged false = refl
 
 -- an exclusive store ends the monitor of its port
 pub monitors_exclusive_store : (r : Recording) (s t : Monitors) (q addr strobe : ℕ) (line : Line) → MonitorsStand r s
@@ -295,18 +270,6 @@ left_at h past (S p addr s) q st accepted is =
     (leaves_one e p (line_in h past e) s (λ m l. nat_eq l addr) (λ m l was. refl) (λ m l. refl) (λ l. flip l addr), refl)
 left_at h past e q st accepted is = cc
 
--- an event that is no load and no store, and leaves no port in a state, leaves the monitors as they are
-pub monitors_other : (r : Recording) (s : Monitors) (e : Event) → ((q addr w : ℕ) (x : Bool) (word : ℕ) → e ≡ L q addr w x word → ⊥)
-    → ((q addr strobe : ℕ) (x : Bool) (line : Line) → e ≡ D q addr strobe x line → ⊥) → left_state e ≡ None → MonitorsStand r s → MonitorsStand (after r e) s
-monitors_other r s (L q addr w x word) no_l no_d none stands = absurd (no_l q addr w x word refl)
-monitors_other r s (D q addr strobe x line) no_l no_d none stands = absurd (no_d q addr strobe x line refl)
-monitors_other r s (Rk p st) no_l no_d none stands = cc
-monitors_other r s (Wk p st) no_l no_d none stands = cc
-monitors_other r s (Cr p resp st) no_l no_d none stands = cc
-monitors_other r s (S p addr st) no_l no_d none stands = cc
-monitors_other r s e no_l no_d none stands = monitors_stay r s e (λ p l was. refl) (λ p l. refl) stands
-
 -- the monitors of the empty trace
-pub monitors_fresh : (h : Header) (s : Monitors) → length s.lines.items ≡ h.ports → ((p : ℕ) → get_or s.lines.items p None ≡ None)
-    → MonitorsStand (record { header = h; past = [] }) s
-monitors_fresh h s size none = record { size = size; lines = λ p l. rw (none p) refl }
+pub monitors_fresh : (h : Header) (s : Monitors) → s.lines.items ≡ replicate h.ports None → MonitorsStand (record { header = h; past = [] }) s
+monitors_fresh h s is = record { size = ap length is ∙ length-replicate h.ports None; lines = λ p l. rw (is, repeated {A = Option ℕ} h.ports p None) refl }

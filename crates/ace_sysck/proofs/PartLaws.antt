@@ -1,16 +1,10 @@
 -- The parts of messages for a port: no two are the same, and the snoops that forward them are the AC DVM Messages.
 use Rattle.std.proofs.Common.{◌≡◌, ◌≢◌, ◌⊎◌, ℕ, ◌+◌, ◌≤◌, true, false, not, ◌&&◌, ◌||◌, nat_eq, List, [], ◌∷◌, ◌++◌, length, slice_get, Option, Some, None, is_some, refl, sym, ap, subst, ◌∙◌, arith, inl, inr, append_assoc, length-append}
-use Rattle.std.specs.List.{All}
+use Rattle.ace_sysck.proofs.Terms.{All, SnoopKind, Snoop, Transaction, Header, Event, Ac, Trace, implies, is_some_and, is_none_or, more, issued, is_message_part, has_second, part_in, waits_after, first_waiting, parts_with, parts_in, parts_for, forwarded, forwards, next_after, add_forwarded, snoops_of, snoop_at, ac_kind_of, is_message_snoop, IsAccepted, is_second_part, forwards_next}
 use Rattle.std.proofs.lemmas.Bool.{cases_Bool, and_parts, eqb-true, eq-eqb}
 use Rattle.std.proofs.lemmas.List.{append-nil}
 use Rattle.std.proofs.lemmas.List.Elements.{All-nil, All-cons, All-append, All-weaker, All-push}
 use Rattle.std.proofs.lemmas.List.Quantifiers.{all_pairs_push}
-use Rattle.ace_codes.specs.declared.kind.SnoopKind.{SnoopKind}
-use Rattle.ace_model.specs.declared.snoops.Snoop.{Snoop}
-use Rattle.ace_model.specs.declared.transactions.Transaction.{Transaction}
-use Rattle.ace_model.proofs.Terms.{Header, Event, Ac, Trace, implies, is_some_and, is_none_or, more, issued, is_message_part, has_second, part_in, waits_after, first_waiting, parts_with, parts_in, parts_for, forwarded, forwards, next_after, add_forwarded, snoops_of, snoop_at, ac_kind_of, is_message_snoop, IsAccepted}
-use Rattle.ace_model.specs.Messages.{is_second_part}
-use Rattle.ace_model.specs.OrderRules.{forwards_next}
 use Rattle.ace_model.proofs.Rules.Keeps.{accepted_keeps}
 use Rattle.ace_model.proofs.Dvm.Parts.{IsBelow, parts-placed}
 use Rattle.ace_model.proofs.Trace.Growth.{IsIssued, issued-new, issued-old, at_point-before}
@@ -35,9 +29,18 @@ waits-old e past p f w = record {
   first = let low = w.there.before in rw (at_point-before e past f.place (omega arith)) w.first;
 }
 
-pub waits-is : (past : Trace) (p : ℕ) (f : Transaction) → first_waiting past p ≡ Some f → Waits past p f
-waits-is [] p f w = cc
-waits-is (e ∷ past) p f w = go (λ g is. waits-is past p g is) (first_waiting past p) refl (part_in (issued (length past) e) p) refl w
+-- What an event issues that waits for its second from then on.
+pub record NewlyWaits (past : Trace) (e : Event) (p : ℕ) (f : Transaction) : Type 0 where
+  pub was : first_waiting past p ≡ None
+  pub new : issued (length past) e ≡ Some f
+  pub part : is_message_part f ≡ true
+  pub port : f.port ≡ p
+  pub second : has_second f.addr ≡ true
+
+-- a first part that waits after an event did before it, and its port issues no part, or it is what the event issues
+pub waits-cases : (past : Trace) (e : Event) (p : ℕ) (f : Transaction) → first_waiting (e ∷ past) p ≡ Some f
+    → ((first_waiting past p ≡ Some f) × (part_in (issued (length past) e) p ≡ None)) ⊎ NewlyWaits past e p f
+waits-cases past e p f w = go (first_waiting past p) refl (part_in (issued (length past) e) p) refl w
   where
     part-is : (o : Option Transaction) (x : Transaction) → part_in o p ≡ Some x → (o ≡ Some x) × (is_message_part x ≡ true) × (x.port ≡ p)
     part-is None x e = cc
@@ -46,20 +49,26 @@ waits-is (e ∷ past) p f w = go (λ g is. waits-is past p g is) (first_waiting 
         let parts = and_parts (is_message_part x) (nat_eq x.port p) s.1 in
         (ap Some s.0, parts.0, eqb-true x.port p parts.1)
 
-    go : ((g : Transaction) → first_waiting past p ≡ Some g → Waits past p g) → (o : Option Transaction) → first_waiting past p ≡ o
-        → (n : Option Transaction) → part_in (issued (length past) e) p ≡ n → waits_after o n ≡ Some f → Waits (e ∷ past) p f
-    go before o was None new w = waits-old e past p f (before f (was ∙ w))
-    go before (Some g) was (Some x) new w = cc
-    go before None was (Some x) new w =
-        let one : x ≡ f = (some_where-is (λ z. has_second z.addr) x f w).0 in
+    go : (o : Option Transaction) → first_waiting past p ≡ o → (n : Option Transaction) → part_in (issued (length past) e) p ≡ n → waits_after o n ≡ Some f
+        → ((first_waiting past p ≡ Some f) × (part_in (issued (length past) e) p ≡ None)) ⊎ NewlyWaits past e p f
+    go o was None none w = inl (was ∙ w, none)
+    go (Some g) was (Some x) new w = cc
+    go None was (Some x) new w =
+        let s = some_where-is (λ z. has_second z.addr) x f w in
         let k = part-is (issued (length past) e) x new in
-        let i = subst (λ (z : Transaction). issued (length past) e ≡ Some z) one k.0 in
-        record {
-          there = issued-new e past f i;
-          port = ap (λ (z : Transaction). z.port) (sym one) ∙ k.2;
-          part = ap is_message_part (sym one) ∙ k.1;
-          first = rw (at_point-last e past f.place (issued-place (length past) e f i), ← one, k.2, was) refl;
-        }
+        inr (subst (NewlyWaits past e p) s.0 (record { was = was; new = k.0; part = k.1; port = k.2; second = ap (λ (z : Transaction). has_second z.addr) s.0 ∙ s.1 }))
+
+pub waits-is : (past : Trace) (p : ℕ) (f : Transaction) → first_waiting past p ≡ Some f → Waits past p f
+waits-is [] p f w = cc
+waits-is (e ∷ past) p f w = elim (waits-cases past e p f w) [
+  | inl old ↦ waits-old e past p f (waits-is past p f old.0)
+  | inr k ↦ record {
+    there = issued-new e past f k.new;
+    port = k.port;
+    part = k.part;
+    first = rw (at_point-last e past f.place (issued-place (length past) e f k.new), k.port, k.was) refl;
+  }
+]
 
 -- it is another one than each that was issued by another port
 other_waiting : (past : Trace) (p q : ℕ) (f g : Transaction) → Waits past p f → Waits past q g → p ≢ q → f.place ≢ g.place
@@ -86,7 +95,17 @@ with-others f None x first here =
 -- a first part that waits is none of the parts for a port
 pub waiting-apart : (past : Trace) (p q : ℕ) (f : Transaction) → first_waiting past p ≡ Some f → AreOthers f (parts_for past q)
 waiting-apart [] p q f w = cc
-waiting-apart (e ∷ past) p q f w = go (waiting-apart past p q f) (first_waiting past p) refl (issued (length past) e) refl w
+waiting-apart (e ∷ past) p q f w = elim (waits-cases past e p f w) [
+  | inl k ↦ old (waiting-apart past p q f) (issued (length past) e) refl k.1 k.0
+  | inr k ↦
+      let at = issued-place (length past) e f k.new in
+      All-append (λ z. z.place ≢ f.place) (parts_for past q) (parts_in past (issued (length past) e) q)
+      (others-below (parts_for past q) f (length past) (parts-placed past q) (omega (arith, at)))
+      (subst (λ n. AreOthers f (parts_in past n q)) (sym k.new) (elim (cases_Bool (is_message_part f && not (nat_eq f.port q))) [
+        | inl y ↦ rw (y, k.port, k.was, k.second) (All-nil (λ z. z.place ≢ f.place))
+        | inr n ↦ rw n (All-nil (λ z. z.place ≢ f.place))
+      ]))
+]
   where
     old : (first_waiting past p ≡ Some f → AreOthers f (parts_for past q)) → (n : Option Transaction) → issued (length past) e ≡ n → part_in n p ≡ None
         → first_waiting past p ≡ Some f → AreOthers f (parts_for past q ++ parts_in past n q)
@@ -103,30 +122,6 @@ waiting-apart (e ∷ past) p q f w = go (waiting-apart past p q f) (first_waitin
               (λ same. let low = wf.there.before in absurd (omega (arith, same, at, low))))
           | inr n ↦ rw n (All-nil (λ z. z.place ≢ f.place))
         ])
-
-    mine : (o : Option Transaction) → first_waiting past p ≡ o → (x : Transaction) → issued (length past) e ≡ Some x → (is_message_part x && nat_eq x.port p) ≡ true
-        → waits_after o (Some x) ≡ Some f → AreOthers f (parts_for past q ++ parts_in past (Some x) q)
-    mine (Some g) was x new t w = cc
-    mine None was x new t w =
-        let s = some_where-is (λ z. has_second z.addr) x f w in
-        let at = issued-place (length past) e x new in
-        let same : f.place ≡ length past = ap (λ (z : Transaction). z.place) (sym s.0) ∙ at in
-        let second : has_second x.addr ≡ true = ap (λ (z : Transaction). has_second z.addr) s.0 ∙ s.1 in
-        let port = eqb-true x.port p (and_parts (is_message_part x) (nat_eq x.port p) t).1 in
-        All-append (λ z. z.place ≢ f.place) (parts_for past q) (parts_in past (Some x) q)
-        (others-below (parts_for past q) f (length past) (parts-placed past q) (omega (arith, same)))
-        (elim (cases_Bool (is_message_part x && not (nat_eq x.port q))) [
-          | inl y ↦ rw (y, port, was, second) (All-nil (λ z. z.place ≢ f.place))
-          | inr n ↦ rw n (All-nil (λ z. z.place ≢ f.place))
-        ])
-
-    go : (first_waiting past p ≡ Some f → AreOthers f (parts_for past q)) → (o : Option Transaction) → first_waiting past p ≡ o
-        → (n : Option Transaction) → issued (length past) e ≡ n → waits_after o (part_in n p) ≡ Some f → AreOthers f (parts_for past q ++ parts_in past n q)
-    go before o was None new w = old before None new refl (was ∙ w)
-    go before o was (Some x) new w = elim (cases_Bool (is_message_part x && nat_eq x.port p)) [
-      | inl t ↦ mine o was x new t (rw t at w)
-      | inr n ↦ let none : part_in (Some x) p ≡ None = rw n refl in old before (Some x) new none (was ∙ (rw n at w))
-    ]
 
 -- no two of the parts for a port are the same
 pub parts-apart : (past : Trace) (q : ℕ) → AreApart (λ x. x.place) (parts_for past q)

@@ -1,23 +1,11 @@
 -- The registrations, event by event.
-use Rattle.std.proofs.Common.{◌≡◌, ℕ, ◌*◌, ◌%◌, ◌^◌, ◌<◌, ◌≤◌, true, false, not, ◌&&◌, ◌||◌, nat_eq, nat_lt, if◌then◌else◌, bit_or, [], ◌∷◌, Option, Some, None, IsSome, unwrap_or, refl, sym, ap, subst, ◌∙◌, arith, inl, inr, w32}
-use Rattle.std.specs.Int.{bit_at}
+use Rattle.std.proofs.Common.{◌≡◌, ℕ, ◌*◌, ◌%◌, ◌^◌, ◌<◌, ◌≤◌, true, false, not, ◌&&◌, ◌||◌, nat_eq, nat_lt, if◌then◌else◌, bit_or, ◌∷◌, Option, Some, None, IsSome, unwrap_or, refl, sym, ap, subst, ◌∙◌, arith, inl, inr, w32}
+use Rattle.ace_sysck.proofs.Terms.{bit_at, get, Transaction, Event, G, Header, Trace, is_some_and, is_line, is_on, is_exclusive_store, outstanding, given, IsAccepted, is_registered, port_of, option_map, Target, Progress, Recording, target_of, progress_of, Registrations, RegistrationsStand, locked_in, locked_of, grants_locked, was_locked, registered_bits, kept_bits, after}
 use Rattle.std.proofs.lemmas.Bool.{cases_Bool, cases_eq, and_parts, eq-eqb, ne_eqb, le-ltb}
 use Rattle.std.proofs.lemmas.Nat.Bits.{bit_at_set_same, bit_at_set_other, bit_at_above, bit_at-zero}
-use Rattle.indexmap.specs.IndexMap.{get}
-use Rattle.ace_model.specs.declared.transactions.Transaction.{Transaction}
-use Rattle.ace_model.proofs.Terms.{Event, G, Header, Trace, is_some_and, is_line, is_on, is_exclusive_store, outstanding, given, IsAccepted}
-use Rattle.ace_model.specs.Exclusives.{is_registered}
-use Rattle.ace_model.specs.Trace.{port_of}
-use Rattle.std.specs.Option.{option_map}
 use Rattle.ace_sysck.proofs.Steps.{granted_one, port_within}
 use Rattle.ace_model.proofs.General.Options.{Some-injective, some_where-is}
 use Rattle.ace_model.proofs.Trace.Issued.{outstanding-named, outstanding-name}
-use Rattle.ace_portck.specs.Target.{Target}
-use Rattle.ace_portck.specs.declared.target.Progress.{Progress}
-use Rattle.ace_portck.specs.Targets.{Recording, target_of, progress_of}
-use Rattle.ace_sysck.specs.declared.registrations.Registrations.{Registrations}
-use Rattle.ace_sysck.specs.Registrations.{RegistrationsStand, locked_in, locked_of, grants_locked, was_locked, registered_bits, kept_bits}
-use Rattle.ace_portck.specs.Targets.{after}
 
 -- the bits with one more set
 pub bit_set : (bits q p : ℕ) → q < 32 → nat_eq (bit_at (bit_or bits (1 * 2 ^ q % 4294967296)) p) 1 ≡ (nat_eq q p || nat_eq (bit_at bits p) 1)
@@ -160,8 +148,8 @@ registrations_lock r s n e t x kept new accepted few own is stands keeps sets he
         ]
 
 -- a line without a place was granted to no transaction with lock 1
-pub never-locked : (r : Recording) (s : Registrations) (l : ℕ) → RegistrationsStand r s → get nat_eq s.lines l ≡ None → was_locked r.past l ≡ false
-never-locked r s l stands none =
+pub never_locked : (r : Recording) (s : Registrations) (l : ℕ) → RegistrationsStand r s → get nat_eq s.lines l ≡ None → was_locked r.past l ≡ false
+never_locked r s l stands none =
     elim (cases_Bool (was_locked r.past l)) [
       | inl t ↦ let bad : false ≡ true = subst (λ o. IsSome o) none (stands.known l t) in cc
       | inr f ↦ f

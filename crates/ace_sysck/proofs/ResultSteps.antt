@@ -1,15 +1,9 @@
 -- The results of the exclusive stores, event by event.
-use Rattle.std.proofs.Common.{◌≡◌, ℕ, ◌<◌, ◌*◌, Bool, true, false, ◌&&◌, nat_eq, if◌then◌else◌, [], ◌∷◌, length, Option, Some, None, get_or, slice_set, refl, sym, ap, ◌∙◌, inl, inr, length-set}
+use Rattle.std.proofs.Common.{◌≡◌, ℕ, ◌<◌, ◌*◌, Bool, true, false, ◌&&◌, nat_eq, if◌then◌else◌, [], ◌∷◌, length, Option, Some, None, get_or, replicate, slice_set, refl, sym, ap, ◌∙◌, inl, inr, length-set}
+use Rattle.std.proofs.lemmas.List.{length-replicate}
 use Rattle.std.proofs.lemmas.Bool.{cases_Bool, and_parts}
-use Rattle.ace_model.specs.declared.transactions.Transaction.{Transaction}
-use Rattle.ace_model.proofs.Terms.{Event, Ar, Aw, G, Read, Header, Trace, is_read, same_channel, is_exclusive_store, given, issued, is_named, has_name, passed_at_grant, store_result, is_clean_unique, is_some_and, newer, Channel}
-use Rattle.ace_model.specs.Exclusives.{store_passes}
-use Rattle.ace_model.proofs.Trace.Outstanding.{write_issued}
-use Rattle.ace_portck.specs.Targets.{Recording}
-use Rattle.ace_sysck.specs.declared.results.Results.{Results}
-use Rattle.ace_sysck.specs.Results.{ResultsStand, slot_of}
-use Rattle.ace_portck.specs.Targets.{after}
-use Rattle.ace_sysck.proofs.Tables.{set_at, same_slot, slot_within}
+use Rattle.ace_sysck.proofs.Terms.{Transaction, Event, Ar, Read, Header, Trace, is_read, same_channel, is_exclusive_store, given, issued, is_named, has_name, passed_at_grant, store_result, is_clean_unique, is_some_and, newer, store_passes, Recording, Results, ResultsStand, slot_of, after}
+use Rattle.ace_sysck.proofs.Tables.{repeated, set_at, same_slot, slot_within}
 
 -- an exclusive store is a read
 store_reads : (x : Transaction) → is_exclusive_store x ≡ true → same_channel x.chan Read ≡ true
@@ -88,32 +82,19 @@ results_stay r s e unnamed plain stands = record {
 }
 
 -- no write is named as a read
-write_unnamed : (x : Transaction) (p i : ℕ) → same_channel x.chan Read ≡ false → has_name x p Read i ≡ false
+pub write_unnamed : (x : Transaction) (p i : ℕ) → same_channel x.chan Read ≡ false → has_name x p Read i ≡ false
 write_unnamed x p i write =
     elim (cases_Bool (nat_eq x.port p)) [
       | inl t ↦ rw (t, write) refl
       | inr f ↦ rw f refl
     ]
 
--- an event that is neither an AR nor a G
-pub results_stay_at : (r : Recording) (s : Results) (e : Event) → ((q j addr snoop dom bar : ℕ) (lock : Bool) → e ≡ Ar q j addr snoop dom bar lock → ⊥)
-    → ((q : ℕ) (c : Channel) (j : ℕ) → e ≡ G q c j → ⊥) → ResultsStand r s → ResultsStand (after r e) s
-results_stay_at r s e not_ar not_g stands = results_stay r s e (λ p i. unnamed e not_ar p i) (ungiven e not_g) stands
-  where
-    unnamed : (d : Event) → ((q j addr snoop dom bar : ℕ) (lock : Bool) → d ≡ Ar q j addr snoop dom bar lock → ⊥)
-        → (p i : ℕ) → is_named (issued (length r.past) d) p Read i ≡ false
-    unnamed (Ar q j addr snoop dom bar lock) other p i = absurd (other q j addr snoop dom bar lock refl)
-    unnamed (Aw q j addr snoop dom bar) other p i = write_unnamed (write_issued r.past q j addr snoop dom bar) p i refl
-    unnamed d other p i = refl
-
-    ungiven : (d : Event) → ((q : ℕ) (c : Channel) (j : ℕ) → d ≡ G q c j → ⊥) → is_some_and (given r.past d) is_exclusive_store ≡ false
-    ungiven (G q c j) other = absurd (other q c j refl)
-    ungiven d other = refl
-
 -- the results of the empty trace
-pub results_fresh : (h : Header) (s : Results) → length s.passed.items ≡ h.ports * 256 → ((n : ℕ) → get_or s.passed.items n None ≡ None)
-    → ResultsStand (record { header = h; past = [] }) s
-results_fresh h s size none = record { size = size; passed = λ p i low. none (slot_of p i) }
+pub results_fresh : (h : Header) (s : Results) → s.passed.items ≡ replicate (h.ports * 256) None → ResultsStand (record { header = h; past = [] }) s
+results_fresh h s is = record {
+  size = ap length is ∙ length-replicate (h.ports * 256) None;
+  passed = λ p i low. ap (λ xs. get_or xs (slot_of p i) None) is ∙ repeated (h.ports * 256) (slot_of p i) None;
+}
 
 -- a G of any other transaction
 pub results_other_grant : (r : Recording) (s : Results) (e : Event) (x : Transaction) → issued (length r.past) e ≡ None → given r.past e ≡ Some x → is_exclusive_store x ≡ false

@@ -1,18 +1,8 @@
 -- What the rules over several groups say.
 use Rattle.std.proofs.Common.{◌≡◌, ℕ, ◌<◌, Bool, true, false, not, ◌&&◌, nat_eq, nat_lt, get_or, Option, Some, None, is_some, refl, sym, ap, ◌∙◌, arith}
 use Rattle.std.proofs.lemmas.Bool.{and_parts, ltb-true}
-use Rattle.ace_codes.specs.declared.kind.SnoopKind.{SnoopKind}
-use Rattle.ace_model.specs.declared.transactions.Transaction.{Transaction}
-use Rattle.ace_model.proofs.Terms.{Header, Ac, implies, is_some_and, is_none_or, is_complete_snoop, ac_kind_of, last_sync, is_sync_completed, may_complete, has_every_completion, k39}
+use Rattle.ace_sysck.proofs.Terms.{SnoopKind, Transaction, Header, Ac, implies, is_some_and, is_none_or, is_complete_snoop, ac_kind_of, last_sync, is_sync_completed, may_complete, has_every_completion, k39, Target, Recording, PortMessages, Messages, Syncs, silent, completes_all, MayAskK39, completes_now}
 use Rattle.ace_model.proofs.Dvm.Syncs.{last_sync-is}
-use Rattle.ace_portck.specs.Target.{Target}
-use Rattle.ace_portck.specs.Targets.{Recording}
-use Rattle.ace_sysck.specs.declared.messages.PortMessages.{PortMessages}
-use Rattle.ace_sysck.specs.declared.messages.Messages.{Messages}
-use Rattle.ace_sysck.specs.declared.syncs.Syncs.{Syncs}
-use Rattle.ace_sysck.specs.Messages.{silent}
-use Rattle.ace_sysck.specs.Syncs.{completes_all}
-use Rattle.ace_sysck.specs.Rules.{MayAskK39, completes_now}
 use Rattle.ace_sysck.proofs.SyncSteps.{completes_all-is}
 
 -- K39 of an AC DVM Complete

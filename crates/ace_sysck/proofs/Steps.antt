@@ -1,19 +1,10 @@
 -- What an accepted event says of the port and the transaction that it names.
 use Rattle.std.proofs.Common.{◌≡◌, ℕ, ◌<◌, nat_lt, ◌∷◌, length, Option, Some, None, sym, ap, ◌∙◌}
 use Rattle.std.proofs.lemmas.Bool.{and_parts, ltb-true}
-use Rattle.std.specs.Option.{option_map}
-use Rattle.ace_model.specs.declared.transactions.Transaction.{Transaction}
-use Rattle.ace_model.proofs.Terms.{Event, G, Channel, issued, Header, Trace, outstanding, transaction_of, IsAccepted, may_be_granted}
-use Rattle.ace_model.specs.AddressRules.{may_have}
-use Rattle.ace_model.specs.Trace.{port_of}
+use Rattle.ace_sysck.proofs.Terms.{option_map, Transaction, Event, G, Channel, issued, Header, Trace, outstanding, transaction_of, IsAccepted, may_be_granted, may_have, port_of, given, Target, Progress, Recording, target_of, progress_of, IsStep}
 use Rattle.ace_model.proofs.Rules.Keeps.{accepted_keeps}
 use Rattle.ace_model.proofs.General.Options.{is_none_or-at, is_some_and-is, Some-injective}
 use Rattle.ace_model.proofs.Trace.Issued.{outstanding-named, outstanding-name}
-use Rattle.ace_model.specs.Grants.{given}
-use Rattle.ace_portck.specs.Target.{Target}
-use Rattle.ace_portck.specs.declared.target.Progress.{Progress}
-use Rattle.ace_portck.specs.Targets.{Recording, target_of, progress_of}
-use Rattle.ace_sysck.specs.Steps.{IsStep}
 
 -- the port of an event of an accepted trace is one of the header
 pub port_within : (h : Header) (past : Trace) (e : Event) (p : ℕ) → IsAccepted h (e ∷ past) → port_of e ≡ Some p → p < h.ports
@@ -34,8 +25,6 @@ progress_from h past (Some x) y e = ap Some (ap (λ (v : Progress). v.transactio
 
 -- What an accepted G says of the transaction that it grants.
 pub record Grants (r : Recording) (e : Event) (q j : ℕ) (x : Transaction) : Type 0 where
-  pub own_port : x.port ≡ q
-  pub own_id : x.id ≡ j
   pub issues_none : issued (length r.past) e ≡ None
   pub grants : given r.past e ≡ Some x
   pub port : x.port < r.header.ports
@@ -48,8 +37,6 @@ grants-at r q c j e t y step is some =
     let named = outstanding-named r.header r.past q c j y.transaction out in
     let name = outstanding-name r.header r.past q c j y.transaction out in
     record {
-      own_port = name.port;
-      own_id = name.id;
       issues_none = ap (issued (length r.past)) is;
       grants = ap (given r.past) is ∙ named;
       port = rw name.port (port_within r.header r.past e q step.accepted (ap port_of is));

@@ -1,13 +1,11 @@
 -- The Syncs that reach the ports, event by event.
-use Rattle.std.proofs.Common.{◌≡◌, ◌≢◌, ◌⊎◌, ℕ, ◌+◌, ◌-◌, ◌^◌, ◌<◌, ◌≤◌, Bool, true, false, not, cond, ◌&&◌, nat_eq, nat_le, nat_lt, if◌then◌else◌, List, [], ◌∷◌, ◌++◌, length, map, slice_get, slice_set, get_or, count_by, Option, Some, None, is_some, refl, sym, ap, subst, ◌∙◌, arith, inl, inr, length-set}
-use Rattle.std.specs.List.{All}
-use Rattle.std.proofs.lemmas.Bool.{cases_Bool, cases_eq, and_parts, and_right, eqb-true, eq-eqb, ne_eqb}
-use Rattle.std.proofs.lemmas.List.{append-nil, get_or-set_same, get_or-set_other}
+use Rattle.std.proofs.Common.{◌≡◌, ◌≢◌, ◌⊎◌, ℕ, ◌+◌, ◌-◌, ◌^◌, ◌<◌, ◌≤◌, Bool, true, false, not, cond, ◌&&◌, nat_eq, nat_le, nat_lt, if◌then◌else◌, List, [], ◌∷◌, ◌++◌, length, map, slice_get, slice_set, get_or, replicate, count_by, Option, Some, None, is_some, refl, sym, ap, subst, ◌∙◌, arith, inl, inr, length-set}
+use Rattle.ace_sysck.proofs.Terms.{All, Transaction, Header, Event, Ac, Cr, Trace, at_point, newer, is_some_and, implies, issued, transactions, is_ace, is_message_part, is_message_word, is_sync, is_sync_word, has_second, first_waiting, parts_with, parts_in, parts_for, last_sync, sync_in, sync_number, answered_parts, answered_syncs, dvm_completes, is_dvm_completion, begins_well, begins_message, is_part_in_order, IsAccepted, is_other_ace, has_every_completion, LineState, read_kind, ArKind, is_dvm_message, answers, is_dvm_complete, Target, Recording, after, target_of, PortMessages, PortSyncs, Syncs, begun_in, PortMessagesStand, is_new_sync, SyncsStand, PortSyncsStand, ReachesAll, syncs_for, next_count, untold, reached_by, one_answered, one_completed, completes_all, IsStep, option_map, option_to_list, Inboxes, InboxesStand, part_of, first_is_sync, is_sync_part, answers_message}
+use Rattle.std.proofs.lemmas.Bool.{cases_Bool, cases_eq, and_parts, and_right, eq-eqb, ne_eqb}
+use Rattle.std.proofs.lemmas.List.{length-replicate, append-nil, get_or-set_same, get_or-set_other}
 use Rattle.std.proofs.lemmas.List.Elements.{All-weaker}
+use Rattle.std.proofs.lemmas.Option.{slice_get-map}
 use Rattle.std.proofs.lemmas.List.Sums.{sum_by-append, sum_by_push}
-use Rattle.ace_model.specs.declared.transactions.Transaction.{Transaction}
-use Rattle.ace_model.proofs.Terms.{Header, Event, Ac, Cr, Trace, at_point, newer, is_some_and, implies, issued, transactions, is_ace, is_message_part, is_message_word, is_sync, is_sync_word, has_second, first_waiting, part_in, waits_after, parts_with, parts_in, parts_for, last_sync, sync_in, sync_number, answered_parts, answered_syncs, dvm_completes, is_dvm_completion, begins_well, begins_message, is_part_in_order, IsAccepted, is_other_ace, has_every_completion, LineState, read_kind, ArKind, is_dvm_message, answers, ac_kind_of, is_message_snoop}
-use Rattle.ace_model.specs.Kinds.{is_dvm_complete}
 use Rattle.ace_codes.specs.declared.kind.ArKind.TheVariants as kind
 use Rattle.ace_model.proofs.Rules.Keeps.{accepted_keeps}
 use Rattle.ace_model.proofs.Dvm.Parts.{IsBelow, parts-placed}
@@ -16,37 +14,27 @@ use Rattle.ace_model.proofs.Dvm.Syncs.{last_sync-is}
 use Rattle.ace_model.proofs.Trace.Growth.{at_point-before, at_point-end}
 use Rattle.ace_model.proofs.Trace.Places.{at_point-last, at_point-length}
 use Rattle.ace_model.proofs.Trace.Issued.{issued-place}
-use Rattle.ace_model.proofs.General.Options.{Some-injective, is_none_or-at, some_where-is}
+use Rattle.ace_model.proofs.General.Options.{Some-injective, is_none_or-at}
 use Rattle.ace_model.proofs.General.Booleans.{implies-at, not_both}
 use Rattle.ace_model.proofs.General.Lists.{start-all, count_by-start, count_by-agree, count_by-cons}
-use Rattle.ace_portck.specs.Target.{Target}
-use Rattle.ace_portck.specs.Targets.{Recording, after, target_of}
-use Rattle.ace_sysck.specs.declared.messages.PortMessages.{PortMessages}
-use Rattle.ace_sysck.specs.declared.syncs.PortSyncs.{PortSyncs}
-use Rattle.ace_sysck.specs.declared.syncs.Syncs.{Syncs}
-use Rattle.ace_sysck.specs.Events.{begun_in}
-use Rattle.ace_sysck.specs.Messages.{PortMessagesStand, is_new_sync}
-use Rattle.ace_sysck.specs.Syncs.{SyncsStand, PortSyncsStand, ReachesAll, syncs_for, next_count, untold, reached_by, one_answered, one_completed, completes_all}
-use Rattle.ace_sysck.specs.Steps.{IsStep}
-use Rattle.ace_sysck.proofs.Tables.{set_at}
+use Rattle.ace_sysck.proofs.Tables.{entries_set, repeated}
 use Rattle.ace_sysck.proofs.Steps.{port_within}
 use Rattle.ace_sysck.proofs.BarrierSteps.{issuing-port}
 use Rattle.ace_sysck.proofs.EventLaws.{begun-is}
-use Rattle.ace_sysck.proofs.Forwarding.InboxHears.{idle-answered, answered-now, answered-more, snoop_there, no_more}
-use Rattle.std.specs.Option.{option_map, option_to_list}
+use Rattle.ace_sysck.proofs.Forwarding.InboxHears.{idle-answered, answered-now, answered-more, forwards-part, is-message, snoop_there, no_more}
 use Rattle.std.proofs.lemmas.List.Elements.{All-drop}
-use Rattle.ace_model.specs.declared.snoops.Snoop.{Snoop}
 use Rattle.ace_model.proofs.General.Lists.{slice_get-at_end, slice_get-start, slice_get-drop, slice_get-all}
-use Rattle.ace_sysck.specs.declared.inboxes.Inboxes.{Inboxes}
-use Rattle.ace_sysck.specs.Inboxes.{InboxesStand, part_of, first_is_sync, is_sync_part, answers_message}
-use Rattle.ace_sysck.proofs.PartLaws.{Forwards, forwards-at}
-use Rattle.ace_sysck.proofs.Forwarding.InboxRules.{unanswered, inbox_of, slice_get-map, all_ports-same}
-use Rattle.ace_sysck.proofs.PartLaws.{waits-is, waits-old}
+use Rattle.ace_sysck.proofs.PartLaws.{Forwards}
+use Rattle.ace_sysck.proofs.Forwarding.InboxRules.{unanswered, inbox_of, all_ports-same}
+use Rattle.ace_sysck.proofs.PartLaws.{waits-cases, waits-is, waits-old}
 
 -- what is kept after the empty trace
-pub syncs_fresh : (h : Header) (s : Syncs) → length s.ports.items ≡ h.ports → ((q : ℕ) → get_or s.ports.items q untold ≡ untold)
-    → SyncsStand (record { header = h; past = [] }) s
-syncs_fresh h s size none = record { size = size; ports = λ q low. subst (PortSyncsStand [] q) (sym (none q)) (record { reached = refl; answered = refl; completes = refl; table = refl; numbers = λ p x small is. cc }) }
+pub syncs_fresh : (h : Header) (s : Syncs) → s.ports.items ≡ replicate h.ports untold → SyncsStand (record { header = h; past = [] }) s
+syncs_fresh h s is = record {
+  size = ap length is ∙ length-replicate h.ports untold;
+  ports = λ q low. subst (PortSyncsStand [] q) (sym (ap (λ xs. get_or xs q untold) is ∙ repeated h.ports q untold))
+      (record { reached = refl; answered = refl; completes = refl; table = refl; numbers = λ p x small is. cc });
+}
 
 -- K9 of a part that an accepted event issues
 message_order : (h : Header) (past : Trace) (e : Event) (x : Transaction) → IsAccepted h (e ∷ past) → issued (length past) e ≡ Some x → is_message_part x ≡ true
@@ -58,32 +46,17 @@ message_order h past e x accepted new part =
 -- a first part that waits for its second is no Sync
 first-no_sync : (h : Header) (past : Trace) (p : ℕ) (f : Transaction) → IsAccepted h past → first_waiting past p ≡ Some f → is_sync_word f.addr ≡ false
 first-no_sync h [] p f accepted w = cc
-first-no_sync h (e ∷ past) p f accepted w = go (λ g. first-no_sync h past p g accepted.0) (first_waiting past p) refl (issued (length past) e) refl w
-  where
-    mine : (o : Option Transaction) → first_waiting past p ≡ o → (x : Transaction) → issued (length past) e ≡ Some x → (is_message_part x && nat_eq x.port p) ≡ true
-        → waits_after o (Some x) ≡ Some f → is_sync_word f.addr ≡ false
-    mine (Some g) was x new t w = cc
-    mine None was x new t w =
-        let s = some_where-is (λ z. has_second z.addr) x f w in
-        let parts = and_parts (is_message_part x) (nat_eq x.port p) t in
-        let order = message_order h past e x accepted new parts.0 in
-        let begins : begins_message past x ≡ true = sym (ap (is_part_in_order past x) (ap (first_waiting past) (eqb-true x.port p parts.1) ∙ was)) ∙ order in
-        let word = (and_parts (is_message_word x.addr) _ begins).0 in
-        elim (cases_Bool (is_sync_word f.addr)) [
-          | inl y ↦
-              let same : is_sync_word x.addr ≡ true = ap (λ (z : Transaction). is_sync_word z.addr) s.0 ∙ y in
-              let none : has_second x.addr ≡ false = not_both _ (is_sync_word x.addr) (has_second x.addr) word same in
-              let bad : false ≡ true = sym none ∙ ap (λ (z : Transaction). has_second z.addr) s.0 ∙ s.1 in cc
-          | inr n ↦ n
-        ]
-
-    go : ((g : Transaction) → first_waiting past p ≡ Some g → is_sync_word g.addr ≡ false) → (o : Option Transaction) → first_waiting past p ≡ o
-        → (n : Option Transaction) → issued (length past) e ≡ n → waits_after o (part_in n p) ≡ Some f → is_sync_word f.addr ≡ false
-    go before o was None new w = before f (was ∙ w)
-    go before o was (Some x) new w = elim (cases_Bool (is_message_part x && nat_eq x.port p)) [
-      | inl t ↦ mine o was x new t (rw t at w)
-      | inr n ↦ before f (was ∙ (rw n at w))
-    ]
+first-no_sync h (e ∷ past) p f accepted w = elim (waits-cases past e p f w) [
+  | inl old ↦ first-no_sync h past p f accepted.0 old.0
+  | inr k ↦
+      let order = message_order h past e f accepted k.new k.part in
+      let begins : begins_message past f ≡ true = sym (ap (is_part_in_order past f) (ap (first_waiting past) k.port ∙ k.was)) ∙ order in
+      let word = (and_parts (is_message_word f.addr) _ begins).0 in
+      elim (cases_Bool (is_sync_word f.addr)) [
+        | inl y ↦ let bad : false ≡ true = sym (not_both _ (is_sync_word f.addr) (has_second f.addr) word y) ∙ k.second in cc
+        | inr n ↦ n
+      ]
+]
 
 -- whether a transaction of the trace is a Sync stays
 sync-old : (e : Event) (past : Trace) (z : Transaction) → z.place < length past → is_sync (e ∷ past) z ≡ is_sync past z
@@ -154,6 +127,10 @@ no_part-syncs : (past : Trace) (e : Event) (n : Option Transaction) (q : ℕ) �
 no_part-syncs past e None q plain = refl
 no_part-syncs past e (Some x) q plain = rw plain refl
 
+at_most : (b : Bool) (n : ℕ) → n ≡ (if b then 1 else 0) → n ≤ 1
+at_most true n is = omega arith
+at_most false n is = omega arith
+
 -- there are no more Syncs for a port than events
 pub syncs-few : (h : Header) (past : Trace) (q : ℕ) → IsAccepted h past → syncs_for past q ≤ length past
 syncs-few h [] q accepted = omega arith
@@ -163,10 +140,6 @@ syncs-few h (e ∷ past) q accepted =
     let few = new-few (issued (length past) e) refl (cases_Bool (is_some_and (issued (length past) e) is_message_part)) in
     omega arith
   where
-    at_most : (b : Bool) (n : ℕ) → n ≡ (if b then 1 else 0) → n ≤ 1
-    at_most true n is = omega arith
-    at_most false n is = omega arith
-
     new-few : (n : Option Transaction) → issued (length past) e ≡ n → (is_some_and (issued (length past) e) is_message_part ≡ true) ⊎ (is_some_and (issued (length past) e) is_message_part ≡ false)
         → count_by (is_sync (e ∷ past)) (parts_in past (issued (length past) e) q) ≤ 1
     new-few n is (inr plain) = let zero_is = no_part-syncs past e (issued (length past) e) q plain in omega arith
@@ -194,12 +167,8 @@ completes-few [] q = omega arith
 completes-few (e ∷ past) q =
     let before = completes-few past q in
     let more_by = completes-more past e q (issued (length past) e) refl in
-    let few = at_most (is_some_and (issued (length past) e) (λ x. is_dvm_completion x && nat_eq x.port q)) in
+    let few = at_most (is_some_and (issued (length past) e) (λ x. is_dvm_completion x && nat_eq x.port q)) _ refl in
     omega arith
-  where
-    at_most : (b : Bool) → (if b then 1 else 0) ≤ 1
-    at_most true = omega arith
-    at_most false = omega arith
 
 -- the number of a Sync stays
 number-old : (e : Event) (past : Trace) (x : Transaction) (q : ℕ) → x.place < length past → sync_number (e ∷ past) x q ≡ sync_number past x q
@@ -211,10 +180,6 @@ number-old e past x q low =
 
 next-is : (n m : ℕ) → n ≡ m → m < 2 ^ 64 - 1 → next_count n ≡ m + 1
 next-is n m is low = omega arith
-
--- the last Syncs stay where the event issues none
-no_sync : (past : Trace) (e : Event) → ((p : ℕ) → sync_in past (issued (length past) e) p ≡ None) → (p : ℕ) → last_sync (e ∷ past) p ≡ last_sync past p
-no_sync past e none p = ap (λ o. newer o (last_sync past p)) (none p)
 
 -- what the port has answered, where the event is no CR of it
 answered-same : (h : Header) (past : Trace) (e : Event) (q : ℕ) → IsAccepted h (e ∷ past) → ((resp : ℕ) (st : LineState) → e ≡ Cr q resp st → ⊥) → answered_parts (e ∷ past) q ≡ answered_parts past q
@@ -232,20 +197,26 @@ answered-count e past q same =
     ap (count_by (is_sync (e ∷ past))) same
     ∙ count-old e past (answered_parts past q) (start-all (IsBelow (length past)) (answered_parts past q) (parts_for past q) (answered-first past q) (parts-placed past q))
 
+-- an event that issues no Sync leaves the numbers as they are
+port_counted : (past : Trace) (e : Event) (q : ℕ) (s n : PortSyncs) → PortSyncsStand past q s → n.reached ≡ s.reached → n.numbers ≡ s.numbers
+    → n.answered ≡ answered_syncs (e ∷ past) q → n.completes ≡ dvm_completes (e ∷ past) q → count_by (is_sync (e ∷ past)) (parts_in past (issued (length past) e) q) ≡ 0
+    → ((p : ℕ) → sync_in past (issued (length past) e) p ≡ None) → PortSyncsStand (e ∷ past) q n
+port_counted past e q s n k reached numbers answered completes none plain = record {
+  reached = reached ∙ (let was = k.reached in let sum = grown e past q in omega arith);
+  answered = answered;
+  completes = completes;
+  table = ap length numbers ∙ k.table;
+  numbers = λ p x small is.
+      let was : last_sync past p ≡ Some x = sym (ap (λ o. newer o (last_sync past p)) (plain p)) ∙ is in
+      ap (λ l. get_or l p 0) numbers ∙ k.numbers p x small was ∙ sym (number-old e past x q (last_sync-is past p x was).0.issued.before);
+}
+
 -- an event that issues no Sync and no DVM Complete of the port, and is no CR of it
 port_stays : (h : Header) (past : Trace) (e : Event) (q : ℕ) (s : PortSyncs) → IsAccepted h (e ∷ past) → ((resp : ℕ) (st : LineState) → e ≡ Cr q resp st → ⊥)
     → count_by (is_sync (e ∷ past)) (parts_in past (issued (length past) e) q) ≡ 0 → ((p : ℕ) → sync_in past (issued (length past) e) p ≡ None)
     → dvm_completes (e ∷ past) q ≡ dvm_completes past q → PortSyncsStand past q s → PortSyncsStand (e ∷ past) q s
-port_stays h past e q s accepted not_cr none plain same k = record {
-  reached = let was = k.reached in let sum = grown e past q in omega arith;
-  answered = k.answered ∙ sym (answered-count e past q (answered-same h past e q accepted not_cr));
-  completes = k.completes ∙ sym same;
-  table = k.table;
-  numbers = λ p x small is.
-      let was : last_sync past p ≡ Some x = sym (no_sync past e plain p) ∙ is in
-      let low = (last_sync-is past p x was).0.issued.before in
-      k.numbers p x small was ∙ sym (number-old e past x q low);
-}
+port_stays h past e q s accepted not_cr none plain same k =
+    port_counted past e q s s k refl refl (k.answered ∙ sym (answered-count e past q (answered-same h past e q accepted not_cr))) (k.completes ∙ sym same) none plain
 
 -- what an event issues, of Syncs
 sync-in : (past : Trace) (e : Event) (x : Transaction) (p : ℕ) → issued (length past) e ≡ Some x → is_message_part x ≡ true
@@ -268,21 +239,22 @@ not_completion x part = by (read_kind x) part
 completes-same : (past : Trace) (e : Event) (q : ℕ) → is_some_and (issued (length past) e) (λ x. is_dvm_completion x && nat_eq x.port q) ≡ false → dvm_completes (e ∷ past) q ≡ dvm_completes past q
 completes-same past e q other = let more_by = completes-more past e q (issued (length past) e) refl in more_by ∙ rw other (omega arith)
 
+-- an event that issues something is no CR
+issues-no_cr : (past : Trace) (e : Event) (x : Transaction) (q : ℕ) → issued (length past) e ≡ Some x → (resp : ℕ) (st : LineState) → e ≡ Cr q resp st → ⊥
+issues-no_cr past e x q new resp st is = let bad : None ≡ Some x = sym (ap (issued (length past)) is) ∙ new in cc
+
 -- a Sync of the port x.port
 port_reached : (h : Header) (past : Trace) (e : Event) (x : Transaction) (q : ℕ) (s : PortSyncs) → IsAccepted h (e ∷ past) → h.ports ≤ 32 → length past < 2 ^ 64 - 1 → issued (length past) e ≡ Some x
     → is_message_part x ≡ true → (is_sync_word x.addr && not (is_some (first_waiting past x.port))) ≡ true → x.port < h.ports
     → PortSyncsStand past q s → PortSyncsStand (e ∷ past) q (reached_by s x.port (nat_eq q x.port))
 port_reached h past e x q s accepted few_ports few new part sync within k = record {
   reached = reached (cases_eq q x.port);
-  answered = k.answered ∙ sym (answered-count e past q (answered-same h past e q accepted not_cr));
+  answered = k.answered ∙ sym (answered-count e past q (answered-same h past e q accepted (issues-no_cr past e x q new)));
   completes = k.completes ∙ sym (completes-same past e q (rw (new, not_completion x part) refl));
   table = length-set s.numbers x.port (next_count s.reached) ∙ k.table;
   numbers = λ p y small is. numbers p y small is (cases_eq p x.port);
 }
   where
-    not_cr : (resp : ℕ) (st : LineState) → e ≡ Cr q resp st → ⊥
-    not_cr resp st is = let bad : None ≡ Some x = sym (ap (issued (length past)) is) ∙ new in cc
-
     small_count : syncs_for past q < 2 ^ 64 - 1
     small_count = let n = syncs-few h past q accepted.0 in omega arith
 
@@ -317,43 +289,17 @@ port_reached h past e x q s accepted few_ports few new part sync within k = reco
 port_completed : (h : Header) (past : Trace) (e : Event) (x : Transaction) (s : PortSyncs) → IsAccepted h (e ∷ past) → length past < 2 ^ 64 - 1 → issued (length past) e ≡ Some x
     → is_message_part x ≡ false → is_dvm_completion x ≡ true → PortSyncsStand past x.port s → PortSyncsStand (e ∷ past) x.port (one_completed s)
 port_completed h past e x s accepted few new plain completion k =
-    let z = port_stays-but h past e x.port s accepted (λ resp st is. let bad : None ≡ Some x = sym (ap (issued (length past)) is) ∙ new in cc)
-    (no_part-syncs past e (issued (length past) e) x.port (rw new plain)) (λ p. no_sync-in past e (issued (length past) e) p (rw new plain)) k in
-    record {
-      reached = z.0;
-      answered = z.1;
-      completes =
-          let n = completes-few past x.port in
-          next-is s.completes (dvm_completes past x.port) k.completes (omega (arith, n, few))
-          ∙ sym (completes-more past e x.port (issued (length past) e) refl ∙ rw (new, completion, eq-eqb x.port x.port refl) refl);
-      table = k.table;
-      numbers = z.2;
-    }
-  where
-    port_stays-but : (h : Header) (past : Trace) (e : Event) (q : ℕ) (s : PortSyncs) → IsAccepted h (e ∷ past) → ((resp : ℕ) (st : LineState) → e ≡ Cr q resp st → ⊥)
-        → count_by (is_sync (e ∷ past)) (parts_in past (issued (length past) e) q) ≡ 0 → ((p : ℕ) → sync_in past (issued (length past) e) p ≡ None)
-        → PortSyncsStand past q s
-        → (s.reached ≡ syncs_for (e ∷ past) q) × (s.answered ≡ answered_syncs (e ∷ past) q)
-        × ((p : ℕ) (y : Transaction) → p < 32 → last_sync (e ∷ past) p ≡ Some y → get_or s.numbers p 0 ≡ sync_number (e ∷ past) y q)
-    port_stays-but h past e q s accepted not_cr none plain k = (
-      (let was = k.reached in let sum = grown e past q in omega arith),
-      k.answered ∙ sym (answered-count e past q (answered-same h past e q accepted not_cr)),
-      λ p y small is.
-          let was : last_sync past p ≡ Some y = sym (no_sync past e plain p) ∙ is in
-          let low = (last_sync-is past p y was).0.issued.before in
-          k.numbers p y small was ∙ sym (number-old e past y q low),
-    )
+    let n = completes-few past x.port in
+    port_counted past e x.port s (one_completed s) k refl refl
+    (k.answered ∙ sym (answered-count e past x.port (answered-same h past e x.port accepted (issues-no_cr past e x x.port new))))
+    (next-is s.completes (dvm_completes past x.port) k.completes (omega (arith, n, few))
+    ∙ sym (completes-more past e x.port (issued (length past) e) refl ∙ rw (new, completion, eq-eqb x.port x.port refl) refl))
+    (no_part-syncs past e (issued (length past) e) x.port (rw new plain)) (λ p. no_sync-in past e (issued (length past) e) p (rw new plain))
 
 -- a CR of the port: what it answers, and whether that is a Sync
 module _ (h : Header) (past : Trace) (q resp : ℕ) (st : LineState) (accepted : IsAccepted h (Cr q resp st ∷ past)) (t : Target) (own : t ≡ target_of h past (Cr q resp st)) where
   abbrev cr_event : Event
   cr_event = Cr q resp st
-
-  forwards-part : Forwards past q (answers past q) (snoop_there h past q resp st accepted).0
-  forwards-part = forwards-at h past q (answers past q) (snoop_there h past q resp st accepted).0 accepted.0 (snoop_there h past q resp st accepted).1
-
-  is-message : (part : Option Transaction) → is_some part ≡ is_some_and (ac_kind_of (snoop_there h past q resp st accepted).0.snoop) is_message_snoop → is_some part ≡ answers_message t
-  is-message part kind = kind ∙ sym (ap (λ o. is_some_and o (λ (v : Snoop). is_some_and (ac_kind_of v.snoop) is_message_snoop)) (snoop_there h past q resp st accepted).1) ∙ sym (ap answers_message own)
 
   -- the part that is answered is the first that was not
   first-part : (y : Transaction) → answered_parts (cr_event ∷ past) q ≡ answered_parts past q ++ y ∷ [] → slice_get (unanswered past q) 0 ≡ Some y
@@ -374,24 +320,24 @@ module _ (h : Header) (past : Trace) (q resp : ℕ) (st : LineState) (accepted :
   -- how many Syncs it has answered
   pub answers-none : answers_message t ≡ false → answered_syncs (cr_event ∷ past) q ≡ answered_syncs past q
   answers-none other =
-      let k = forwards-part in
-      let none : is_some k.part ≡ false = is-message k.part k.kind ∙ other in
+      let k = forwards-part h past q resp st accepted in
+      let none : is_some k.part ≡ false = is-message h past q resp st accepted t own ∙ other in
       answered-count cr_event past q (answered-more h past q resp st accepted k.part k.there ∙ no_more (answered_parts past q) k.part none)
 
   pub answers-one : (s : Inboxes) (r : Recording) (sync : Bool) → r.header ≡ h → r.past ≡ past → InboxesStand r s → is_ace h q ≡ true → answers_message t ≡ true
       → sync ≡ is_some_and (slice_get s.ports.items q) first_is_sync → answered_syncs (cr_event ∷ past) q ≡ answered_syncs past q + (if sync then 1 else 0)
-  answers-one s r sync hs ps stands ace message told = go forwards-part.part refl
+  answers-one s r sync hs ps stands ace message told = go k.part refl
     where
       k : Forwards past q (answers past q) (snoop_there h past q resp st accepted).0
-      k = forwards-part
+      k = forwards-part h past q resp st accepted
 
       below : (y : Transaction) → slice_get (unanswered past q) 0 ≡ Some y → y.place < length past
       below y there = slice_get-all (IsBelow (length past)) (unanswered past q) 0 y (All-drop (IsBelow (length past)) (length (answered_parts past q)) (parts_for past q) (parts-placed past q)) there
 
-      go : (o : Option Transaction) → forwards-part.part ≡ o → answered_syncs (cr_event ∷ past) q ≡ answered_syncs past q + (if sync then 1 else 0)
-      go None is = let bad : false ≡ true = sym (ap is_some is) ∙ is-message forwards-part.part forwards-part.kind ∙ message in cc
+      go : (o : Option Transaction) → k.part ≡ o → answered_syncs (cr_event ∷ past) q ≡ answered_syncs past q + (if sync then 1 else 0)
+      go None is = let bad : false ≡ true = sym (ap is_some is) ∙ is-message h past q resp st accepted t own ∙ message in cc
       go (Some y) is =
-          let new : answered_parts (cr_event ∷ past) q ≡ answered_parts past q ++ y ∷ [] = answered-more h past q resp st accepted forwards-part.part forwards-part.there ∙ ap (λ o. answered_parts past q ++ option_to_list o) is in
+          let new : answered_parts (cr_event ∷ past) q ≡ answered_parts past q ++ y ∷ [] = answered-more h past q resp st accepted k.part k.there ∙ ap (λ o. answered_parts past q ++ option_to_list o) is in
           let there = first-part y new in
           let same : is_sync (cr_event ∷ past) y ≡ sync = sync-old cr_event past y (below y there) ∙ sym (first-sync s r hs ps stands ace y there) ∙ sym told in
           ap (count_by (is_sync (cr_event ∷ past))) new ∙ sum_by_push (λ z. cond {A = ℕ} (is_sync (cr_event ∷ past) z) 1 0) (answered_parts past q) y
@@ -402,39 +348,20 @@ module _ (h : Header) (past : Trace) (q resp : ℕ) (st : LineState) (accepted :
   -- so what is kept of the port
   pub port_answers : (s n : PortSyncs) → PortSyncsStand past q s → n.reached ≡ s.reached → n.completes ≡ s.completes → n.numbers ≡ s.numbers → n.answered ≡ answered_syncs (cr_event ∷ past) q
       → PortSyncsStand (cr_event ∷ past) q n
-  port_answers s n k reached completes numbers answered = record {
-    reached = reached ∙ k.reached ∙ sym (grown cr_event past q ∙ add_zero (syncs_for past q));
-    answered = answered;
-    completes = completes ∙ k.completes;
-    table = ap length numbers ∙ k.table;
-    numbers = λ p x small is.
-        let low = (last_sync-is past p x is).0.issued.before in
-        ap (λ l. get_or l p 0) numbers ∙ k.numbers p x small is ∙ sym (number-old cr_event past x q low);
-  }
-    where
-      add_zero : (n : ℕ) → n + 0 ≡ n
-      add_zero n = omega arith
+  port_answers s n k reached completes numbers answered =
+      port_counted past cr_event q s n k reached numbers answered (completes ∙ k.completes) refl (λ p. refl)
 
 -- a list in which one port's is set
 syncs_set : (r : Recording) (s n : Syncs) (e : Event) (q : ℕ) (v : PortSyncs) → SyncsStand r s → q < r.header.ports → n.ports.items ≡ slice_set s.ports.items q v
     → PortSyncsStand (e ∷ r.past) q v → ((p : ℕ) (m : PortSyncs) → (q ≡ p → ⊥) → PortSyncsStand r.past p m → PortSyncsStand (e ∷ r.past) p m) → SyncsStand (after r e) n
 syncs_set r s n e q v stands within items new others = record {
   size = ap length items ∙ length-set s.ports.items q v ∙ stands.size;
-  ports = λ p low_p.
-      let low : q < length s.ports.items = let k = stands.size in omega arith in
-      subst (PortSyncsStand (e ∷ r.past) p) (sym (ap (λ xs. get_or xs p untold) items ∙ set_at s.ports.items q p v untold low)) (by p low_p (cases_eq q p));
+  ports = λ p low.
+      entries_set (PortSyncsStand r.past) (PortSyncsStand (e ∷ r.past)) s.ports.items n.ports.items q r.header.ports v untold stands.size within items new others p (stands.ports p low);
 }
-  where
-    by : (p : ℕ) → p < r.header.ports → (q ≡ p) ⊎ (q ≡ p → ⊥) → PortSyncsStand (e ∷ r.past) p (if nat_eq q p then v else get_or s.ports.items p untold)
-    by p low (inl same) = rw (eq-eqb q p same) (subst (λ m. PortSyncsStand (e ∷ r.past) m v) same new)
-    by p low (inr off) = rw (ne_eqb q p off) (others p (get_or s.ports.items p untold) off (stands.ports p low))
 
-syncs_all : (r : Recording) (s : Syncs) (e : Event) → SyncsStand r s → ((p : ℕ) (m : PortSyncs) → PortSyncsStand r.past p m → PortSyncsStand (e ∷ r.past) p m) → SyncsStand (after r e) s
+pub syncs_all : (r : Recording) (s : Syncs) (e : Event) → SyncsStand r s → ((p : ℕ) (m : PortSyncs) → PortSyncsStand r.past p m → PortSyncsStand (e ∷ r.past) p m) → SyncsStand (after r e) s
 syncs_all r s e stands each = record { size = stands.size; ports = λ p low. each p (get_or s.ports.items p untold) (stands.ports p low) }
-
--- an event that issues something is no CR
-issues-no_cr : (past : Trace) (e : Event) (x : Transaction) (q : ℕ) → issued (length past) e ≡ Some x → (resp : ℕ) (st : LineState) → e ≡ Cr q resp st → ⊥
-issues-no_cr past e x q new resp st is = let bad : None ≡ Some x = sym (ap (issued (length past)) is) ∙ new in cc
 
 -- a Sync
 pub syncs_sync : (r : Recording) (s n : Syncs) (e : Event) (t : Target) (x : Transaction) (m : PortMessages) → IsStep r e t → begun_in e t ≡ Some x → is_message_part x ≡ true
@@ -493,14 +420,10 @@ syncs_other_issue r s e t x step begun plain other stands =
     (λ m. no_sync-in r.past e (issued (length r.past) e) m (rw new plain)) (completes-same r.past e p (rw (new, other) refl)) st)
 
 -- an event that issues nothing, for a port of which it is no CR
-quiet_port : (h : Header) (past : Trace) (e : Event) (q : ℕ) (s : PortSyncs) → IsAccepted h (e ∷ past) → issued (length past) e ≡ None → ((resp : ℕ) (st : LineState) → e ≡ Cr q resp st → ⊥)
+pub quiet_port : (h : Header) (past : Trace) (e : Event) (q : ℕ) (s : PortSyncs) → IsAccepted h (e ∷ past) → issued (length past) e ≡ None → ((resp : ℕ) (st : LineState) → e ≡ Cr q resp st → ⊥)
     → PortSyncsStand past q s → PortSyncsStand (e ∷ past) q s
 quiet_port h past e q s accepted none not_cr st =
     port_stays h past e q s accepted not_cr (ap (λ o. count_by (is_sync (e ∷ past)) (parts_in past o q)) none) (λ p. ap (λ o. sync_in past o p) none) (completes-same past e q (rw none refl)) st
-
-pub syncs_quiet : (r : Recording) (s : Syncs) (e : Event) (t : Target) → IsStep r e t → begun_in e t ≡ None → ((q resp : ℕ) (st : LineState) → e ≡ Cr q resp st → ⊥) → SyncsStand r s → SyncsStand (after r e) s
-syncs_quiet r s e t step begun not_cr stands =
-    syncs_all r s e stands (λ q k st. quiet_port r.header r.past e q k step.accepted (sym (begun-is r.header r.past e t step.target) ∙ begun) (not_cr q) st)
 
 -- a CR that answers a Sync
 pub syncs_answer : (r : Recording) (s n : Syncs) (t : Target) (q resp : ℕ) (st : LineState) (boxes : Inboxes) (sync : Bool) → IsStep r (Cr q resp st) t → answers_message t ≡ true → sync ≡ true
@@ -569,3 +492,9 @@ completes_all-is r s x p stands small is port =
     ap (λ m. implies (is_other_ace r.header m q) (nat_le (sync_number r.past x q) (dvm_completes r.past q))) port
     ∙ ap (λ n. implies (is_other_ace r.header p q) (nat_le n (dvm_completes r.past q))) (sym (k.numbers p x small is))
     ∙ ap (λ n. implies (is_other_ace r.header p q) (nat_le (get_or (get_or s.ports.items q untold).numbers p 0) n)) (sym k.completes))
+
+-- what a CR that answers a part leaves
+pub ruleset syncs_answered = (syncs_answer, syncs_no_sync)
+
+-- what a part leaves
+pub ruleset syncs_begun = (syncs_sync, syncs_part)

@@ -1,9 +1,7 @@
 -- A read of an accepted trace that isn't complete is outstanding.
 use Rattle.std.proofs.Common.{◌≡◌, ℕ, ◌≤◌, true, false, ◌&&◌, nat_eq, [], ◌∷◌, slice_get, Option, Some, None, refl, sym, ap, ◌∙◌, arith, inl, inr}
 use Rattle.std.proofs.lemmas.Bool.{cases_Bool, and_parts, or_left, or_right, or_parts, eqb-true, eq-eqb}
-use Rattle.ace_event.specs.declared.event.Channel.TheVariants.{Read, Write}
-use Rattle.ace_model.specs.declared.transactions.Transaction.{Transaction}
-use Rattle.ace_model.proofs.Terms.{Header, Event, R, Rk, B, Wk, Trace, is_ace, completes, completed, acknowledgements, next_complete, transaction_of, transaction_under, is_transaction, ended, is_outstanding, is_completion, is_complete, is_completed, is_completion_event, served_by, IsAccepted}
+use Rattle.ace_sysck.proofs.Terms.{Channel, Read, Write, Transaction, Header, Event, R, Rk, B, Wk, Trace, is_ace, completes, completed, acknowledgements, next_complete, transaction_of, transaction_under, is_transaction, ended, is_outstanding, is_completion, is_complete, is_completed, is_completion_event, served_by, IsAccepted}
 use Rattle.ace_model.proofs.Rules.Keeps.{accepted_keeps}
 use Rattle.ace_model.proofs.Holders.Law.{accepted_holds}
 use Rattle.ace_model.proofs.Trace.Growth.{IsIssued, issued-cases}
@@ -38,39 +36,34 @@ waiting-complete h (e ∷ past) accepted p n i ace low at =
       | inr new ↦ or_left (is_completion e p Read i) _ (rw new.1 (eq-eqb i i refl))
     ]
 
--- a write is no read
-not_write : (past : Trace) (x : Transaction) → IsIssued past x → x.chan ≡ Read → (p : ℕ) (o : Option ℕ) → is_transaction (transaction_under past p Write o) x ≡ false
-not_write past x i read p None = refl
-not_write past x i read p (Some j) = go (transaction_of past p Write j) refl
+-- the transaction of a name is none that it isn't
+not_that : (past : Trace) (x : Transaction) → IsIssued past x → (p : ℕ) (c : Channel) (j : ℕ) → ((y : Transaction) → transaction_of past p c j ≡ Some y → y ≡ x → ⊥)
+    → is_transaction (transaction_of past p c j) x ≡ false
+not_that past x i p c j other = go (transaction_of past p c j) refl
   where
-    go : (o : Option Transaction) → transaction_of past p Write j ≡ o → is_transaction o x ≡ false
+    go : (o : Option Transaction) → transaction_of past p c j ≡ o → is_transaction o x ≡ false
     go None is = refl
     go (Some y) is =
         elim (cases_Bool (nat_eq y.place x.place)) [
           | inl t ↦
-              let s = transaction_of-stands past p Write j y is in
-              let one : y ≡ x = Some-injective y x (sym s.there ∙ ap (issued_at past) (eqb-true y.place x.place t) ∙ i.there) in
-              let bad : Write ≡ Read = sym (transaction_of-name past p Write j y is).chan ∙ ap (λ (z : Transaction). z.chan) one ∙ read in cc
+              let there = (transaction_of-stands past p c j y is).there in
+              absurd (other y is (Some-injective y x (sym there ∙ ap (issued_at past) (eqb-true y.place x.place t) ∙ i.there)))
           | inr f ↦ f
         ]
+
+-- a write is no read
+not_write : (past : Trace) (x : Transaction) → IsIssued past x → x.chan ≡ Read → (p : ℕ) (o : Option ℕ) → is_transaction (transaction_under past p Write o) x ≡ false
+not_write past x i read p None = refl
+not_write past x i read p (Some j) = not_that past x i p Write j (λ y is one.
+    let bad : Write ≡ Read = sym (transaction_of-name past p Write j y is).chan ∙ ap (λ (z : Transaction). z.chan) one ∙ read in cc)
 
 -- what an RK of an accepted trace ends is complete
 ended-complete : (h : Header) (past : Trace) (q : ℕ) (o : Option ℕ) (x : Transaction) → IsAccepted h past → IsIssued past x → is_ace h q ≡ true → next_complete past q Read ≡ o
     → is_completed past x ≡ false → is_transaction (transaction_under past q Read o) x ≡ false
 ended-complete h past q None x accepted i ace next open_still = refl
-ended-complete h past q (Some j) x accepted i ace next open_still = go (transaction_of past q Read j) refl
-  where
-    go : (o : Option Transaction) → transaction_of past q Read j ≡ o → is_transaction o x ≡ false
-    go None is = refl
-    go (Some y) is =
-        elim (cases_Bool (nat_eq y.place x.place)) [
-          | inl t ↦
-              let s = transaction_of-stands past q Read j y is in
-              let one : y ≡ x = Some-injective y x (sym s.there ∙ ap (issued_at past) (eqb-true y.place x.place t) ∙ i.there) in
-              let done : is_completed past y ≡ true = sym (complete_by_name past q Read j y is) ∙ waiting-complete h past accepted q (acknowledgements past q Read) j ace (omega arith) next in
-              let bad : true ≡ false = sym done ∙ ap (is_completed past) one ∙ open_still in cc
-          | inr f ↦ f
-        ]
+ended-complete h past q (Some j) x accepted i ace next open_still = not_that past x i q Read j (λ y is one.
+    let done : is_completed past y ≡ true = sym (complete_by_name past q Read j y is) ∙ waiting-complete h past accepted q (acknowledgements past q Read) j ace (omega arith) next in
+    let bad : true ≡ false = sym done ∙ ap (is_completed past) one ∙ open_still in cc)
 
 -- an event ends no read that it doesn't complete, and that wasn't complete
 not_ended : (h : Header) (past : Trace) (e : Event) (x : Transaction) → IsAccepted h (e ∷ past) → IsIssued past x → x.chan ≡ Read → is_completed past x ≡ false → hits past e x ≡ false

@@ -1,46 +1,21 @@
 -- What the events leave of what is kept of the system, where the ports are kept beside it.
 use Rattle.std.proofs.Common.{◌≡◌, ◌∙◌, ◌<◌, ◌-◌, ◌^◌, ℕ, Bool, true, false, ◌&&◌, ◌||◌, not, nat_eq, if◌then◌else◌, [], ◌∷◌, length, slice_get, Option, Some, None, is_some, option_map, Result, Ok, Err, IsOk, OnOk, refl, sym, ap, subst, inl, inr}
 use Rattle.std.proofs.lemmas.Bool.{and_from, and_parts}
-use Rattle.ace_codes.specs.Reads.{ar_kind_of}
-use Rattle.ace_codes.specs.Snoops.{ac_kind_of}
-use Rattle.ace_codes.specs.declared.kind.ArKind.{ArKind}
+use Rattle.ace_sysck.proofs.Terms.{ar_kind_of, ac_kind_of, ArKind, LineState, Channel, Read, Write, Ar, Aw, R, B, Ac, Cr, G, Snoop, Transaction, IsAccepted, least_broken, may_issue_read, may_lock, is_barrier_half, is_dvm_complete, is_dvm_message, is_line_read, is_read_barrier, may_be_exclusive, is_dvm_completion, is_message_part, answered, answers, snoop_at, snoops_of, implies, is_some_and, acknowledged, is_ace, issued, outstanding, read_kind, Event, Header, Trace, is_due, may_respond, PortCheck, acknowledge, Recording, after, line_in, line_of, progress_of, target_of, SysCheck, is_issue, BeginsLine, Hears, MayHear, StandsRoomy, Stands, IsRoomy}
 use Rattle.ace_codes.specs.declared.kind.ArKind.TheVariants as read
-use Rattle.ace_codes.specs.declared.state.LineState.{LineState}
-use Rattle.ace_event.specs.declared.event.Channel.{Channel}
-use Rattle.ace_event.specs.declared.event.Channel.TheVariants.{Read, Write}
-use Rattle.ace_event.specs.declared.event.Event.TheVariants.{Ar, Aw, R, B, Ac, Cr, G}
-use Rattle.ace_model.specs.declared.snoops.Snoop.{Snoop}
-use Rattle.ace_model.specs.declared.transactions.Transaction.{Transaction}
-use Rattle.ace_model.specs.Accepted.{IsAccepted, least_broken}
-use Rattle.ace_model.specs.AddressRules.{may_issue_read, may_lock}
-use Rattle.ace_model.specs.Barriers.{is_barrier_half}
-use Rattle.ace_model.specs.Kinds.{is_dvm_complete, is_dvm_message, is_line_read, is_read_barrier, may_be_exclusive}
-use Rattle.ace_model.specs.Messages.{is_dvm_completion, is_message_part}
-use Rattle.ace_model.specs.Snoops.{answered, answers, snoop_at, snoops_of}
-use Rattle.ace_model.specs.Trace.{implies, is_some_and}
-use Rattle.ace_model.specs.Transactions.{acknowledged, is_ace, issued, outstanding, read_kind}
 use Rattle.ace_model.proofs.General.Lists.{slice_get-more}
 use Rattle.ace_model.proofs.General.Options.{Some-injective, is_none_or-at, is_some_and-is, some_if-is}
 use Rattle.ace_model.proofs.Rules.Keeps.{accepted_keeps}
-use Rattle.ace_model.proofs.Terms.{Event, Header, Trace, is_due, may_respond}
 use Rattle.ace_model.proofs.Trace.Outstanding.{write_issued}
-use Rattle.ace_portck.specs.declared.ports.PortCheck.{PortCheck}
-use Rattle.ace_portck.specs.Acknowledges.{acknowledge}
 use Rattle.ace_portck.specs.DvmReads.{is_completion}
-use Rattle.ace_portck.specs.Targets.{Recording, after, line_in, line_of, progress_of, target_of}
 use Rattle.ace_portck.proofs.LineMaps.{room-stays}
 use Rattle.ace_portck.proofs.ReadAddresses.{read_of}
-use Rattle.ace_sysck.specs.declared.system.SysCheck.{SysCheck}
-use Rattle.ace_sysck.specs.Events.{is_issue}
-use Rattle.ace_sysck.specs.Hearing.{BeginsLine, Hears, MayHear, StandsRoomy}
-use Rattle.ace_sysck.specs.Stands.{Stands, IsRoomy}
-use Rattle.ace_sysck.specs.Steps.{IsStep}
 use Rattle.ace_sysck.proofs.BarrierSteps.{barriers_stay}
 use Rattle.ace_sysck.proofs.Forwarding.InboxHears.{inboxes_other_ac}
 use Rattle.ace_sysck.proofs.MessageSteps.{messages_stay, messages_untold}
 use Rattle.ace_sysck.proofs.ByKind.ReadAddresses.{issue-stands}
 use Rattle.ace_sysck.proofs.Steps.{granted_one}
-use Rattle.ace_sysck.proofs.Unmoved.{barriers_still, monitors_still, moves_nothing, registrations_still, results_still, syncs_still, system_responded, system_still}
+use Rattle.ace_sysck.proofs.Unmoved.{moves_nothing, results_still, system_responded, system_snooped, system_still}
 
 -- what stands after the event, in which no room was taken
 pub next : (s n : SysCheck) (p : PortCheck) (lines : ℕ) (r : Recording) (e : Event) → MayHear s p r lines e → Stands n (after r e)
@@ -54,8 +29,8 @@ pub heard : (s n : SysCheck) (p : PortCheck) (e : Event)
 heard s n p e stands roomy = λ lines r m. next s n p lines r e m (stands r m.stands m.kept m.few) roomy
 
 -- an event that moves nothing
-pub heard-still : (s : SysCheck) (p : PortCheck) (e : Event) → moves_nothing e ≡ true → Hears s p e s
-heard-still s p e nothing = heard s s p e (λ r st fine few. system_still s r e nothing st fine few) (λ k past room. room)
+pub heard_still : (s : SysCheck) (p : PortCheck) (e : Event) → moves_nothing e ≡ true → Hears s p e s
+heard_still s p e nothing = heard s s p e (λ r st fine few. system_still s r e nothing st fine few) (λ k past room. room)
 
 -- ---- what an event issues ----------------------------------------------------------------------------
 
@@ -173,31 +148,18 @@ transfer-still s r p i resp true word off st fine few = cc
 transfer-still s r p i resp false word off st fine few =
     let e = R p i resp false word in
     let t = target_of r.header r.past e in
-    let step : IsStep r e t = record { header = st.ports; accepted = (st.accepted, fine); target = refl; few = few } in
-    system_responded s s.barriers s.messages r e t st step refl (barriers_stay r s.barriers e t step.accepted refl refl refl st.barriers)
-    (messages_stay r s.messages e t step.accepted refl refl refl (λ q addr snoop is. cc) st.messages)
+    let accepted : IsAccepted r.header (e ∷ r.past) = (st.accepted, fine) in
+    system_responded s s.barriers s.messages r e st fine few refl (barriers_stay r s.barriers e t accepted refl refl refl st.barriers)
+    (messages_stay r s.messages e t accepted refl refl refl (λ q. refl) st.messages)
 
 -- ---- snoops ------------------------------------------------------------------------------------------
 
 -- an AC whose code is that of no snoop moves nothing
-pub snoop-still : (s : SysCheck) (r : Recording) (p addr code : ℕ) → ac_kind_of code ≡ None → Stands s r
+pub snoop_still : (s : SysCheck) (r : Recording) (p addr code : ℕ) → ac_kind_of code ≡ None → Stands s r
     → least_broken r.header r.past (Ac p addr code) ≡ None → length r.past < 2 ^ 64 - 1 → Stands s (after r (Ac p addr code))
-snoop-still s r p addr code none st fine few =
-    let e = Ac p addr code in
-    let t = target_of r.header r.past e in
-    let step : IsStep r e t = record { header = st.ports; accepted = (st.accepted, fine); target = refl; few = few } in
-    record {
-      header = st.header;
-      ports = st.ports;
-      accepted = step.accepted;
-      barriers = barriers_still r s.barriers e t step refl st.barriers;
-      monitors = monitors_still r s.monitors e refl st.monitors;
-      results = results_still r s.results e refl st.results;
-      registrations = registrations_still r s.registrations e t step refl st.registrations;
-      messages = messages_untold r s.messages p addr code (rw none refl) st.messages;
-      inboxes = inboxes_other_ac r s.inboxes p addr code step.accepted (rw none refl) st.inboxes;
-      syncs = syncs_still r s.syncs e t step refl st.syncs;
-    }
+snoop_still s r p addr code none st fine few =
+    system_snooped s s.messages s.inboxes r p addr code st fine few (messages_untold r s.messages p addr code (rw none refl) st.messages)
+    (inboxes_other_ac r s.inboxes p addr code (st.accepted, fine) (rw none refl) st.inboxes)
 
 -- each snoop of an accepted trace has a kind
 new-kind : (h : Header) (past : Trace) (e : Event) (p : ℕ) (x : Snoop) → IsAccepted h (e ∷ past)
@@ -227,16 +189,16 @@ answer-found h past p resp st accepted none =
     let bad : false ≡ true = sym (ap is_some none) ∙ some in cc
 
 -- an event that issues nothing is neither an AR nor an AW
-pub issue-found : (n : ℕ) (e : Event) → is_issue e ≡ true → issued n e ≡ None → ⊥
-issue-found n (Ar p i addr snoop dom bar lock) is none = cc
-issue-found n (Aw p i addr snoop dom bar) is none = cc
-issue-found n e is none = cc
+pub issue_found : (n : ℕ) (e : Event) → is_issue e ≡ true → issued n e ≡ None → ⊥
+issue_found n (Ar p i addr snoop dom bar lock) is none = cc
+issue_found n (Aw p i addr snoop dom bar) is none = cc
+issue_found n e is none = cc
 
 -- the line of what is acknowledged
-pub line-acknowledged : (h : Header) (past : Trace) (c : Channel) (p : ℕ) (st : LineState)
+pub line_acknowledged : (h : Header) (past : Trace) (c : Channel) (p : ℕ) (st : LineState)
     → line_of (option_map (progress_of h past) (if is_ace h p then acknowledged past p c else None)) ≡ line_in h past (acknowledge c p st)
-line-acknowledged h past Read p st = refl
-line-acknowledged h past Write p st = refl
+line_acknowledged h past Read p st = refl
+line_acknowledged h past Write p st = refl
 
 -- an accepted G is one of an outstanding transaction
 pub grant-found : (h : Header) (past : Trace) (p : ℕ) (c : Channel) (i : ℕ) → IsAccepted h (G p c i ∷ past)

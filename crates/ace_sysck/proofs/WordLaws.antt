@@ -1,9 +1,7 @@
 -- The word of a DVM message.
 use Rattle.std.proofs.Common.{◌≡◌, ℕ, zero, suc, ◌/◌, ◌%◌, ◌<◌, ◌||◌, nat_eq, nat_le, is_some, refl, ap, arith}
 use Rattle.std.proofs.lemmas.Nat.Bits.{bit_at_lowest}
-use Rattle.ace_codes.specs.Places.{entry}
-use Rattle.ace_model.specs.Trace.{is_some_and}
-use Rattle.ace_model.specs.Messages.{operations, operation_of, is_sync_operation, is_sync_word, has_second}
+use Rattle.ace_sysck.proofs.Terms.{entry, is_some_and, operations, operation_of, is_sync_operation, is_sync_word, has_second}
 
 pub second_is : (word : ℕ) → has_second word ≡ nat_eq (word % 2) 1
 second_is word = ap (λ b. nat_eq b 1) (bit_at_lowest word)

@@ -68,11 +68,14 @@ abbrev pub open_of : Barrier → Option OpenPair
 open_of (Open b) = Some b
 open_of b = None
 
--- What is said of the pair of the port that isn't complete: it is one of its pairs, has had the responses that it says, and is the only one.
+-- What is said of the pair of the port that isn't complete: it is one of its pairs, has had the
+-- responses that it says, and is the only one.
 pub record TellsOpenPair (past : Trace) (p : ℕ) (o : Option OpenPair) : Type 0 where
-  pub there : (b : OpenPair) → o ≡ Some b → (k : ℕ) × (slice_get (pairs past p) k ≡ Some (pair_in b))
+  pub there : (b : OpenPair) → o ≡ Some b
+      → (k : ℕ) × (slice_get (pairs past p) k ≡ Some (pair_in b))
   pub is : (b : OpenPair) → o ≡ Some b → IsOpen past b
-  pub only : (k : ℕ) (b : Pair) → slice_get (pairs past p) k ≡ Some b → is_pair_complete past b ≡ false → option_map pair_in o ≡ Some b
+  pub only : (k : ℕ) (b : Pair) → slice_get (pairs past p) k ≡ Some b
+      → is_pair_complete past b ≡ false → option_map pair_in o ≡ Some b
 
 pub record BarriersStand (r : Recording) (s : Barriers) : Type 0 where
   pub size : length s.ports.items ≡ r.header.ports
@@ -90,13 +93,16 @@ begins_after (ReadHalf y) x = not (is_read x.chan) && is_like_half x y
 begins_after (WriteHalf y) x = is_read x.chan && is_like_half x y
 begins_after (Open b) x = false
 
+-- a pair of which neither half is answered
+abbrev pub opened : Transaction → Transaction → Barrier
+opened read write =
+    Open (record { read = read; write = write; read_answered = false; write_answered = false })
+
 -- the barrier once the port has issued the half
 abbrev pub joined : Barrier → Transaction → Barrier
 joined Idle x = if is_read x.chan then ReadHalf x else WriteHalf x
-joined (ReadHalf y) x =
-    if is_read x.chan then ReadHalf y else Open (record { read = y; write = x; read_answered = false; write_answered = false })
-joined (WriteHalf y) x =
-    if is_read x.chan then Open (record { read = x; write = y; read_answered = false; write_answered = false }) else WriteHalf y
+joined (ReadHalf y) x = if is_read x.chan then ReadHalf y else opened y x
+joined (WriteHalf y) x = if is_read x.chan then opened x y else WriteHalf y
 joined (Open b) x = Open b
 
 -- the pair, once the transaction at the place is complete
@@ -121,17 +127,20 @@ abbrev pub is_awaited_by : ℕ → Option ℕ → Bool
 is_awaited_by place None = true
 is_awaited_by place (Some first) = nat_le place first
 
--- what is before the pair has come far enough, by the first transaction without its order point and the first that isn't complete
+-- what is before the pair has come far enough, by the first transaction without its order point and
+-- the first that isn't complete
 abbrev pub comes_far_enough : OpenPair → Option ℕ → Option ℕ → Bool
 comes_far_enough b unordered incomplete =
-    is_awaited_by (max b.read.place b.write.place) (if b.read.bar == 3 then incomplete else unordered)
+    is_awaited_by (max b.read.place b.write.place)
+    (if b.read.bar == 3 then incomplete else unordered)
 
 -- the half may be answered
 abbrev pub may_answer_after : Barrier → Option ℕ → Option ℕ → Transaction → Bool
 may_answer_after Idle u n x = true
 may_answer_after (ReadHalf y) u n x = not (x.place == y.place)
 may_answer_after (WriteHalf y) u n x = not (x.place == y.place)
-may_answer_after (Open b) u n x = (not (x.place == b.read.place) && not (x.place == b.write.place)) || comes_far_enough b u n
+may_answer_after (Open b) u n x =
+    (not (x.place == b.read.place) && not (x.place == b.write.place)) || comes_far_enough b u n
 
 -- no pair that isn't complete is before the transaction, where barriers order it
 abbrev pub is_past : Barrier → Transaction → Bool

@@ -23,7 +23,8 @@ use Rattle.ace_sysck.specs.declared.inboxes.Inbox.{Inbox}
 use Rattle.ace_sysck.specs.declared.inboxes.Inboxes.{Inboxes}
 use Rattle.ace_sysck.specs.Steps.{IsAsked}
 
--- the empty inbox of the port: that of an ACE port has room for a part under each identifier of each port
+-- the empty inbox of the port: that of an ACE port has room for a part under each identifier of
+-- each port
 pub record IsEmptyInbox (h : Header) (q : ℕ) (b : Inbox) : Type 0 where
   pub empty : b.parts.items ≡ []
   pub count : b.forwarded ≡ 0
@@ -35,13 +36,16 @@ part_of past x = record { transaction = x; second = is_second_part past x; sync 
 
 -- the parts that the port has not answered, and how many of them were forwarded to it
 pub record InboxStands (past : Trace) (q : ℕ) (parts : List Part) (count : ℕ) : Type 0 where
-  pub parts_are : parts ≡ map (part_of past) (drop (length (answered_parts past q)) (parts_for past q))
+  pub parts_are : parts
+      ≡ map (part_of past) (drop (length (answered_parts past q)) (parts_for past q))
   pub count_is : length (answered_parts past q) + count ≡ length (parts_among (forwarded past q))
 
 pub record InboxesStand (r : Recording) (s : Inboxes) : Type 0 where
   pub size : length s.ports.items ≡ r.header.ports
-  pub room : (q : ℕ) (b : Inbox) → slice_get s.ports.items q ≡ Some b → is_ace r.header q ≡ true → r.header.ports * 256 ≤ deque_capacity b.parts
-  pub ports : (q : ℕ) (b : Inbox) → slice_get s.ports.items q ≡ Some b → is_ace r.header q ≡ true → InboxStands r.past q b.parts.items b.forwarded
+  pub room : (q : ℕ) (b : Inbox) → slice_get s.ports.items q ≡ Some b → is_ace r.header q ≡ true
+      → r.header.ports * 256 ≤ deque_capacity b.parts
+  pub ports : (q : ℕ) (b : Inbox) → slice_get s.ports.items q ≡ Some b → is_ace r.header q ≡ true
+      → InboxStands r.past q b.parts.items b.forwarded
   pub ids : (x : Transaction) → IsTransaction r.past x → x.id < 256
 
 -- the parts of the message that the port issues with this part, after what it has issued
@@ -50,8 +54,11 @@ parts_sent m x = after_first m.first
   where
     after_first : Option Transaction → List Part
     after_first (Some first) =
-        record { transaction = first; second = false; sync = is_sync_word first.addr } ∷ record { transaction = x; second = true; sync = false } ∷ []
-    after_first None = if has_second x.addr then [] else record { transaction = x; second = false; sync = is_sync_word x.addr } ∷ []
+        record { transaction = first; second = false; sync = is_sync_word first.addr }
+        ∷ record { transaction = x; second = true; sync = false } ∷ []
+    after_first None =
+        if has_second x.addr then []
+        else record { transaction = x; second = false; sync = is_sync_word x.addr } ∷ []
 
 -- the parts of what is sent
 abbrev pub sent_list : Sent → List Part
@@ -59,7 +66,8 @@ sent_list s = option_to_list s.first ++ option_to_list s.last
 
 -- the inbox, once it has received the parts, for which it has room; it has no more room than before
 pub record Receives (sent : List Part) (b c : Inbox) : Type 0 where
-  pub items : length b.parts.items + length sent ≤ deque_capacity b.parts → c.parts.items ≡ b.parts.items ++ sent
+  pub items : length b.parts.items + length sent ≤ deque_capacity b.parts
+      → c.parts.items ≡ b.parts.items ++ sent
   pub count : c.forwarded ≡ b.forwarded
   pub room : deque_capacity c.parts ≡ deque_capacity b.parts
 
@@ -67,11 +75,16 @@ pub record Receives (sent : List Part) (b c : Inbox) : Type 0 where
 abbrev pub sent_to : ℕ → ℕ → List Part → List Part
 sent_to q sender sent = if q == sender then [] else sent
 
--- the inbox of one port has received what is sent to it, and the others are as they were
-pub record SendsOne (q sender : ℕ) (sent : List Part) (s n : Inboxes) : Type 0 where
+-- the inbox of one port has changed so, and the others are as they were
+pub record ChangesOne (p : ℕ) (changes : Inbox → Inbox → Type 0) (s n : Inboxes) : Type 0 where
   pub size : length n.ports.items ≡ length s.ports.items
-  pub one : (b : Inbox) → slice_get s.ports.items q ≡ Some b → (c : Inbox) × (slice_get n.ports.items q ≡ Some c) × Receives (sent_to q sender sent) b c
-  pub others : (k : ℕ) → (k ≡ q → ⊥) → slice_get n.ports.items k ≡ slice_get s.ports.items k
+  pub one : (b : Inbox) → slice_get s.ports.items p ≡ Some b
+      → (c : Inbox) × (slice_get n.ports.items p ≡ Some c) × changes b c
+  pub others : (k : ℕ) → (k ≡ p → ⊥) → slice_get n.ports.items k ≡ slice_get s.ports.items k
+
+-- the inbox of one port has received what is sent to it
+abbrev pub SendsOne : ℕ → ℕ → List Part → Inboxes → Inboxes → Type 0
+SendsOne q sender sent s n = ChangesOne q (Receives (sent_to q sender sent)) s n
 
 -- every inbox but that of the sender has received the parts
 abbrev pub SendsAll : ℕ → List Part → Inboxes → Inboxes → Type 0
@@ -79,19 +92,22 @@ SendsAll sender sent s n =
     (q : ℕ) (b : Inbox) → slice_get s.ports.items q ≡ Some b
     → (c : Inbox) × (slice_get n.ports.items q ≡ Some c) × Receives (sent_to q sender sent) b c
 
--- one more part of the port is forwarded, where there is one
-pub record ForwardsTo (p : ℕ) (s n : Inboxes) : Type 0 where
-  pub size : length n.ports.items ≡ length s.ports.items
-  pub one : (b : Inbox) → slice_get s.ports.items p ≡ Some b → (c : Inbox) × (slice_get n.ports.items p ≡ Some c) × (c.parts ≡ b.parts)
-      × (b.forwarded < length b.parts.items → c.forwarded ≡ b.forwarded + 1)
-  pub others : (k : ℕ) → (k ≡ p → ⊥) → slice_get n.ports.items k ≡ slice_get s.ports.items k
+-- one more part is forwarded, where there is one
+pub record IsForwarded (b c : Inbox) : Type 0 where
+  pub parts : c.parts ≡ b.parts
+  pub count : b.forwarded < length b.parts.items → c.forwarded ≡ b.forwarded + 1
 
--- the first part of the port is gone
-pub record AnswersFirst (p : ℕ) (s n : Inboxes) : Type 0 where
-  pub size : length n.ports.items ≡ length s.ports.items
-  pub one : (b : Inbox) → slice_get s.ports.items p ≡ Some b → (c : Inbox) × (slice_get n.ports.items p ≡ Some c) × (c.parts.items ≡ drop 1 b.parts.items)
-      × (c.forwarded ≡ b.forwarded - 1) × (deque_capacity c.parts ≡ deque_capacity b.parts)
-  pub others : (k : ℕ) → (k ≡ p → ⊥) → slice_get n.ports.items k ≡ slice_get s.ports.items k
+abbrev pub ForwardsTo : ℕ → Inboxes → Inboxes → Type 0
+ForwardsTo p s n = ChangesOne p IsForwarded s n
+
+-- the first part is gone
+pub record LosesFirst (b c : Inbox) : Type 0 where
+  pub parts : c.parts.items ≡ drop 1 b.parts.items
+  pub count : c.forwarded ≡ b.forwarded - 1
+  pub room : deque_capacity c.parts ≡ deque_capacity b.parts
+
+abbrev pub AnswersFirst : ℕ → Inboxes → Inboxes → Type 0
+AnswersFirst p s n = ChangesOne p LosesFirst s n
 
 abbrev pub is_sync_part : Part → Bool
 is_sync_part p = p.sync
@@ -123,11 +139,14 @@ own_transaction part = part.transaction
 -- the message that begins with the part, and may have a second one
 abbrev pub message_with : Option Transaction → Option Transaction → Option Message
 message_with None second = None
-message_with (Some first) second = Some (record { first = first; second = if has_second first.addr then second else None })
+message_with (Some first) second =
+    Some (record { first = first; second = if has_second first.addr then second else None })
 
 -- the message that begins with the part of this number
 abbrev pub next_message_in : List Part → ℕ → Option Message
-next_message_in parts k = message_with (option_map own_transaction (slice_get parts k)) (option_map own_transaction (slice_get parts (k + 1)))
+next_message_in parts k =
+    message_with (option_map own_transaction (slice_get parts k))
+    (option_map own_transaction (slice_get parts (k + 1)))
 
 -- the message that the inbox has next
 abbrev pub message_of : Option Inbox → Option Message
@@ -136,12 +155,15 @@ message_of (Some b) = next_message_in b.parts.items b.forwarded
 
 -- the message that is forwarded to the port next, from its next part on
 abbrev pub next_message : Trace → ℕ → Option Message
-next_message past q = message_with (next_part past q) (slice_get (parts_for past q) (length (parts_among (forwarded past q)) + 1))
+next_message past q =
+    message_with (next_part past q)
+    (slice_get (parts_for past q) (length (parts_among (forwarded past q)) + 1))
 
 -- an AC of the kind forwards the next part, and no other AC comes before a second part
 abbrev pub forwards_in : Option Part → ℕ → SnoopKind → Bool
 forwards_in next addr k =
-    implies (is_message_snoop k || is_some_and next (λ p. p.second)) (is_message_snoop k && is_some_and next (λ p. p.transaction.addr == addr))
+    implies (is_message_snoop k || is_some_and next (λ p. p.second))
+    (is_message_snoop k && is_some_and next (λ p. p.transaction.addr == addr))
 
 pub record MayAskInboxes (r : Recording) (s : Inboxes) (e : Event) (t : Target) : Type 0 where
   pub asked : IsAsked r e t

@@ -54,7 +54,7 @@ awaits_complete m = is_some m.sync && m.sync_done && not m.sync_completed
 
 -- once the Sync has had its AC DVM Complete
 abbrev pub told_complete : PortMessages → PortMessages
-told_complete m = record { first = m.first; sync = m.sync; sync_done = m.sync_done; sync_completed = true }
+told_complete m = record m { sync_completed = true }
 
 -- the port may issue the part
 abbrev pub is_in_order : PortMessages → Transaction → Bool
@@ -62,4 +62,5 @@ is_in_order m x = by m.first
   where
     by : Option Transaction → Bool
     by (Some first) = (x.dom == first.dom) && (x.bar == first.bar)
-    by None = is_message_word x.addr && implies (is_sync_word x.addr && is_some m.sync) m.sync_completed
+    by None =
+        is_message_word x.addr && implies (is_sync_word x.addr && is_some m.sync) m.sync_completed

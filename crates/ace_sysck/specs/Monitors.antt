@@ -13,7 +13,8 @@ use Rattle.ace_sysck.specs.declared.monitors.Monitors.{Monitors}
 abbrev pub is_line_of : Option ℕ → ℕ → Bool
 is_line_of o l = is_some_and o (λ m. m == l)
 
--- the line that a monitor is set for, once its port leaves a line in a state: in I the monitor is no longer set for that line
+-- the line that a monitor is set for, once its port leaves a line in a state: in I the monitor is
+-- no longer set for that line
 abbrev pub kept_after : Option ℕ → Option ℕ → LineState → Option ℕ
 kept_after None line st = None
 kept_after (Some m) line st = if is_invalid st && is_line_of line m then None else Some m
@@ -29,4 +30,5 @@ left_state _ = None
 -- each port's monitor is set for the line that is kept, and for no other
 pub record MonitorsStand (r : Recording) (s : Monitors) : Type 0 where
   pub size : length s.lines.items ≡ r.header.ports
-  pub lines : (p l : ℕ) → is_monitored r.header r.past p l ≡ is_line_of (slice_index_or s.lines.items p None) l
+  pub lines : (p l : ℕ)
+      → is_monitored r.header r.past p l ≡ is_line_of (slice_index_or s.lines.items p None) l

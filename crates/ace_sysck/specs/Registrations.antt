@@ -26,7 +26,8 @@ was_locked (e ∷ past) l = grants_locked past e l || was_locked past l
 -- the line transaction with lock 1 of the target
 abbrev pub locked_of : Option Progress → Option Transaction
 locked_of None = None
-locked_of (Some x) = if x.transaction.lock && is_line x.transaction then Some x.transaction else None
+locked_of (Some x) =
+    if x.transaction.lock && is_line x.transaction then Some x.transaction else None
 
 -- the transaction with lock 1 to which the event grants a line
 abbrev pub locked_in : Event → Target → Option Transaction

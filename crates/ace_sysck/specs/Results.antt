@@ -11,4 +11,5 @@ slot_of p i = p * 256 + i
 -- the table says of each identifier whether the exclusive store under it passed
 pub record ResultsStand (r : Recording) (s : Results) : Type 0 where
   pub size : length s.passed.items ≡ r.header.ports * 256
-  pub passed : (p i : ℕ) → i < 256 → slice_index_or s.passed.items (slot_of p i) None ≡ passed_at_grant r.past p i
+  pub passed : (p i : ℕ) → i < 256
+      → slice_index_or s.passed.items (slot_of p i) None ≡ passed_at_grant r.past p i

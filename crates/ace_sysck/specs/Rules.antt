@@ -16,7 +16,8 @@ use Rattle.ace_sysck.specs.Messages.{MessagesStand, silent}
 use Rattle.ace_sysck.specs.Syncs.{SyncsStand, completes_all}
 
 -- for K39
-pub record MayAskK39 (r : Recording) (h : Header) (m : Messages) (s : Syncs) (e : Event) (t : Target) : Type 0 where
+pub record MayAskK39 (r : Recording) (h : Header) (m : Messages) (s : Syncs) (e : Event)
+    (t : Target) : Type 0 where
   pub asked : IsAsked r e t
   pub header : h ≡ r.header
   pub messages : MessagesStand r m
@@ -24,11 +25,14 @@ pub record MayAskK39 (r : Recording) (h : Header) (m : Messages) (s : Syncs) (e 
 
 -- the read is an exclusive load, or an exclusive store that passed
 abbrev pub is_okay : Transaction → Option Bool → Bool
-is_okay x passed = x.lock && implies (is_some_and (read_kind x) is_clean_unique) (is_exclusive_store x && is_some_and passed (λ p. p))
+is_okay x passed =
+    x.lock && implies (is_some_and (read_kind x) is_clean_unique)
+    (is_exclusive_store x && is_some_and passed (λ p. p))
 
 -- the port's last Sync may have its AC DVM Complete with the address
 abbrev pub completes_with : PortMessages → Header → Syncs → ℕ → ℕ → Bool
-completes_with m h s p addr = (addr == 0) && is_some m.sync && m.sync_done && not m.sync_completed && completes_all h s p
+completes_with m h s p addr =
+    (addr == 0) && is_some m.sync && m.sync_done && not m.sync_completed && completes_all h s p
 
 abbrev pub completes_now : Header → Messages → Syncs → ℕ → ℕ → Bool
 completes_now h m s p addr = completes_with (slice_index_or m.ports.items p silent) h s p addr

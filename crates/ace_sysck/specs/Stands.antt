@@ -16,7 +16,8 @@ use Rattle.ace_sysck.specs.Messages.{MessagesStand}
 use Rattle.ace_sysck.specs.Inboxes.{InboxesStand}
 use Rattle.ace_sysck.specs.Syncs.{SyncsStand}
 
--- What is kept is what there is of barriers, exclusive transactions and DVM messages after the recording, which is accepted.
+-- What is kept is what there is of barriers, exclusive transactions and DVM messages after the
+-- recording, which is accepted.
 pub record Stands (s : SysCheck) (r : Recording) : Type 0 where
   pub header : s.header ≡ r.header
   pub ports : IsHeader r.header
@@ -33,7 +34,7 @@ pub record Stands (s : SysCheck) (r : Recording) : Type 0 where
 abbrev pub HasLockRoom : SysCheck → Transaction → Type 0
 HasLockRoom s x = x.lock ≡ true → IsSome (get nat_eq s.registrations.lines x.addr)
 
--- There is room for so many lines that are granted to transactions with lock 1, and each place is that of a line which a transaction of
--- the trace names.
+-- There is room for so many lines that are granted to transactions with lock 1, and each place is
+-- that of a line which a transaction of the trace names.
 abbrev pub IsRoomy : ℕ → Trace → SysCheck → Type 0
 IsRoomy lines past s = HasRoomForLines lines past s.registrations.lines

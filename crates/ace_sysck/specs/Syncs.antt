@@ -23,11 +23,13 @@ pub record PortSyncsStand (past : Trace) (q : ℕ) (s : PortSyncs) : Type 0 wher
   pub answered : s.answered ≡ answered_syncs past q
   pub completes : s.completes ≡ dvm_completes past q
   pub table : length s.numbers ≡ 32
-  pub numbers : (p : ℕ) (x : Transaction) → p < 32 → last_sync past p ≡ Some x → slice_index_or s.numbers p 0 ≡ sync_number past x q
+  pub numbers : (p : ℕ) (x : Transaction) → p < 32 → last_sync past p ≡ Some x
+      → slice_index_or s.numbers p 0 ≡ sync_number past x q
 
 pub record SyncsStand (r : Recording) (s : Syncs) : Type 0 where
   pub size : length s.ports.items ≡ r.header.ports
-  pub ports : (q : ℕ) → q < r.header.ports → PortSyncsStand r.past q (slice_index_or s.ports.items q untold)
+  pub ports : (q : ℕ) → q < r.header.ports
+      → PortSyncsStand r.past q (slice_index_or s.ports.items q untold)
 
 -- one more, up to the greatest number
 abbrev pub next_count : ℕ → ℕ
@@ -44,21 +46,24 @@ reached_by s sender own = record {
 
 -- once the port has answered a Sync, and once it has issued a DVM Complete
 abbrev pub one_answered : PortSyncs → PortSyncs
-one_answered s = record { reached = s.reached; answered = next_count s.answered; completes = s.completes; numbers = s.numbers }
+one_answered s = record s { answered = next_count s.answered }
 
 abbrev pub one_completed : PortSyncs → PortSyncs
-one_completed s = record { reached = s.reached; answered = s.answered; completes = next_count s.completes; numbers = s.numbers }
+one_completed s = record s { completes = next_count s.completes }
 
 -- what is kept of each port once the sender has issued a Sync
 pub record ReachesAll (sender : ℕ) (s n : Syncs) : Type 0 where
   pub size : length n.ports.items ≡ length s.ports.items
   pub each : (q : ℕ) → q < length s.ports.items
-      → slice_index_or n.ports.items q untold ≡ reached_by (slice_index_or s.ports.items q untold) sender (q == sender)
+      → slice_index_or n.ports.items q untold
+      ≡ reached_by (slice_index_or s.ports.items q untold) sender (q == sender)
 
--- every other ACE port has issued as many DVM Completes as the number that the port's last Sync has for it
+-- every other ACE port has issued as many DVM Completes as the number that the port's last Sync has
+-- for it
 abbrev pub completes_all : Header → Syncs → ℕ → Bool
 completes_all h s p =
     list_all
     (λ q. implies (is_other_ace h p q)
-    (nat_le (slice_index_or (slice_index_or s.ports.items q untold).numbers p 0) (slice_index_or s.ports.items q untold).completes))
+    (nat_le (slice_index_or (slice_index_or s.ports.items q untold).numbers p 0)
+    (slice_index_or s.ports.items q untold).completes))
     (ports_below h.ports)

@@ -12,9 +12,10 @@ impl SysCheck {
     ghost use Rattle.ace_portck.specs.Targets.{Recording, after, line_in};
     ghost use Rattle.ace_sysck.specs.Stands.{Stands, IsRoomy};
 
-    /// Takes an RK or WK that breaks no rule: a monitor that is set for its line no longer is, where the port is left in I (Arm IHI
-    /// 0022E, C9).
+    /// Takes an RK or WK that breaks no rule: a monitor that is set for its line no longer is,
+    /// where the port is left in I (Arm IHI 0022E, C9).
     #[inline(always)]
+    #[tactic(auto, using(crate::proofs::ByKind::Acknowledges::acknowledged_stands))]
     pub fn acknowledge(&mut self, port: u8, line: Option<u32>, st: LineState)
         ensures stands { (r : Recording) (c : Channel) → Stands self.old r
             → line ≡ line_in r.header r.past (acknowledge c port st)

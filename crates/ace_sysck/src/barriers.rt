@@ -2,8 +2,9 @@
 
 ghost use Rattle.std.specs.Prelude.{◌≡◌, max};
 ghost use Rattle.ace_model.specs.AddressRules.{is_like_half};
-ghost use Rattle.ace_sysck.specs.Barriers.{begins_after, joined, answered, is_awaited_by, comes_far_enough, may_answer_after, is_past};
+ghost use Rattle.ace_sysck.specs.Barriers.{begins_after, joined, answered, open_of, is_awaited_by, comes_far_enough, may_answer_after, is_past};
 
+use crate::entries::{entry_or, set_entry};
 use ace_event::Channel;
 use ace_model::Transaction;
 use std::alloc::{AllocError, Global};
@@ -17,7 +18,8 @@ pub struct OpenPair {
     pub write_answered: bool,
 }
 
-/// What a port has of its newest barrier, while that isn't complete: every earlier one is (Arm IHI 0022E, C8).
+/// What a port has of its newest barrier, while that isn't complete: every earlier one is (Arm IHI
+/// 0022E, C8).
 #[derive(Clone, Copy, Debug, PartialEq, Eq)]
 pub enum Barrier {
     /// Every barrier half of the port is of a complete pair.
@@ -90,14 +92,23 @@ fn answered(barrier: Barrier, place: usize) -> Barrier
                 Barrier::Idle
             } else {
                 Barrier::Open(OpenPair {
-                    read: pair.read,
-                    write: pair.write,
                     read_answered,
                     write_answered,
+                    ..pair
                 })
             }
         }
         _ => barrier,
+    }
+}
+
+/// The pair that isn't complete, if it is one.
+fn open_of(barrier: Barrier) -> Option<OpenPair>
+    ensures { result ≡ open_of barrier }
+{
+    match barrier {
+        Barrier::Open(pair) => Some(pair),
+        _ => None,
     }
 }
 
@@ -122,7 +133,8 @@ fn is_awaited_by(place: usize, awaited: Option<usize>) -> bool
     }
 }
 
-/// What is before the pair has come far enough: to its order point, or for a synchronisation barrier to its end.
+/// What is before the pair has come far enough: to its order point, or for a synchronisation
+/// barrier to its end.
 fn comes_far_enough(pair: &OpenPair, unordered: Option<usize>, incomplete: Option<usize>) -> bool
     ensures { result ≡ comes_far_enough pair.now unordered incomplete }
 {
@@ -134,7 +146,8 @@ fn comes_far_enough(pair: &OpenPair, unordered: Option<usize>, incomplete: Optio
     is_awaited_by(place_of(pair), first)
 }
 
-/// The half may be answered: it is of a complete pair, or of one before which everything has come far enough.
+/// The half may be answered: it is of a complete pair, or of one before which everything has come
+/// far enough.
 fn may_answer_after(
     barrier: &Barrier,
     unordered: Option<usize>,
@@ -176,51 +189,32 @@ impl Barriers {
     ghost use Rattle.ace_sysck.specs.declared.barriers.Barrier.TheVariants.{Idle};
 
     /// The barriers of the empty trace, of so many ports.
+    #[tactic(auto, using(crate::proofs::BarrierSteps::barriers_fresh))]
     pub fn new(alloc: Global, ports: u8) -> Result<Barriers, AllocError>
-        ensures { IfOk result (λ s. (h : Header) → h.ports ≡ ports → BarriersStand (record { header = h; past = [] }) s) }
+        ensures { IfOk result (λ s. (h : Header) → h.ports ≡ ports
+            → BarriersStand (record { header = h; past = [] }) s) }
     {
-        let mut all = Vec::new(alloc);
-        for _port in 0..ports {
-            all.push(Barrier::Idle)?;
-        }
-        Ok(Barriers { ports: all })
+        let ports = vec![in alloc; Barrier::Idle; usize::from(ports)]?;
+        Ok(Barriers { ports })
     }
 
     fn barrier_of(&self, port: u8) -> Barrier
         ensures { result ≡ slice_index_or self.now.ports.items port Idle }
     {
-        let p = port as usize;
-        if p < self.ports.len() {
-            self.ports[p]
-        } else {
-            Barrier::Idle
-        }
+        entry_or(&self.ports, port, Barrier::Idle)
     }
 
     /// The pair of the port that isn't complete, if there is one.
     pub fn open_pair(&self, port: u8) -> Option<OpenPair>
         ensures { (r : Recording) → BarriersStand r self.now → TellsOpenPair r.past port result }
     {
-        match self.barrier_of(port) {
-            Barrier::Open(pair) => Some(pair),
-            Barrier::Idle => None,
-            Barrier::ReadHalf(_) => None,
-            Barrier::WriteHalf(_) => None,
-        }
-    }
-
-    fn set(&mut self, port: u8, barrier: Barrier)
-        ensures { self.new.ports.items ≡ slice_set self.old.ports.items port barrier }
-    {
-        let p = port as usize;
-        if p < self.ports.len() {
-            self.ports[p] = barrier;
-        }
+        open_of(self.barrier_of(port))
     }
 
     /// The port's transaction at the place is complete. Only an open pair is moved by that.
     pub(crate) fn answer(&mut self, port: u8, place: usize)
-        ensures { self.new.ports.items ≡ slice_set self.old.ports.items port (answered (slice_index_or self.old.ports.items port Idle) place) }
+        ensures { self.new.ports.items ≡ slice_set self.old.ports.items port
+            (answered (slice_index_or self.old.ports.items port Idle) place) }
     {
         let p = port as usize;
         if p < self.ports.len() {
@@ -232,21 +226,25 @@ impl Barriers {
 
     /// Of K9, where the event issues the barrier half: it has address 0, every earlier pair of the
     /// port is complete, and its own other half, if it was issued, is alike.
+    #[tactic(auto, using(crate::proofs::BarrierRules::begins_is))]
     pub fn lets_begin(&self, x: &Transaction) -> bool
-        ensures { (r : Recording) → MayBegin r self.now x.now → is_barrier_half x.now ≡ true → result ≡ begins_barrier r.past x.now }
+        ensures { (r : Recording) → MayBegin r self.now x.now → is_barrier_half x.now ≡ true
+            → result ≡ begins_barrier r.past x.now }
     {
         x.addr == 0 && begins_after(&self.barrier_of(x.port), x)
     }
 
-    /// The transaction may be answered, as far as the barriers of its port tell. `unordered` is the place of the port's first transaction
-    /// without its order point, and `incomplete` that of the first that isn't complete.
+    /// The transaction may be answered, as far as the barriers of its port tell. `unordered` is the
+    /// place of the port's first transaction without its order point, and `incomplete` that of the
+    /// first that isn't complete.
     pub(crate) fn may_answer(
         &self,
         x: &Transaction,
         unordered: Option<usize>,
         incomplete: Option<usize>,
     ) -> bool
-        ensures { result ≡ may_answer_after (slice_index_or self.now.ports.items x.now.port Idle) unordered incomplete x.now }
+        ensures { result ≡ may_answer_after
+            (slice_index_or self.now.ports.items x.now.port Idle) unordered incomplete x.now }
     {
         match self.ports.get(usize::from(x.port)) {
             None => true,
@@ -257,8 +255,10 @@ impl Barriers {
     /// K35, of the transaction that a G grants: where its bar is 0, every barrier pair of the port
     /// before it is complete.
     #[inline(always)]
+    #[tactic(auto, using(crate::proofs::BarrierRules::past_is))]
     pub fn lets_past(&self, x: &Transaction) -> bool
-        ensures { (r : Recording) → BarriersStand r self.now → result ≡ is_past_barriers r.past x.now }
+        ensures { (r : Recording) → BarriersStand r self.now
+            → result ≡ is_past_barriers r.past x.now }
     {
         match self.ports.get(usize::from(x.port)) {
             None => true,
@@ -268,9 +268,10 @@ impl Barriers {
 
     /// The port issues the barrier half.
     pub fn begin(&mut self, x: &Transaction)
-        ensures { self.new.ports.items ≡ slice_set self.old.ports.items x.now.port (joined (slice_index_or self.old.ports.items x.now.port Idle) x.now) }
+        ensures { self.new.ports.items ≡ slice_set self.old.ports.items x.now.port
+            (joined (slice_index_or self.old.ports.items x.now.port Idle) x.now) }
     {
         let barrier = joined(self.barrier_of(x.port), *x);
-        self.set(x.port, barrier);
+        set_entry(&mut self.ports, x.port, barrier);
     }
 }

@@ -2,6 +2,7 @@
 
 ghost use Rattle.std.specs.Prelude.{◌≡◌, ◌<◌, ◌+◌, [], length, slice_get, IfOk};
 ghost use Rattle.std.specs.Option.{option_map, option_to_list};
+ghost use Rattle.ace_sysck.specs.declared.inboxes.Message.{Message};
 ghost use Rattle.ace_sysck.specs.Inboxes.{IsEmptyInbox, parts_sent, sent_list, Receives, forwards_in, has_place, own_transaction, next_message_in};
 
 use crate::messages::PortMessages;
@@ -23,7 +24,8 @@ pub struct Part {
     pub sync: bool,
 }
 
-/// The parts of the messages of other ports that a port has not answered, in the order in which they are forwarded to it.
+/// The parts of the messages of other ports that a port has not answered, in the order in which
+/// they are forwarded to it.
 #[derive(Drop)]
 pub struct Inbox {
     pub parts: VecDeque<Part>,
@@ -31,7 +33,8 @@ pub struct Inbox {
     pub forwarded: usize,
 }
 
-/// For each port of the header, its inbox. Nothing is forwarded to an ACE-Lite port: its inbox has no room.
+/// For each port of the header, its inbox. Nothing is forwarded to an ACE-Lite port: its inbox has
+/// no room.
 #[derive(Drop)]
 pub struct Inboxes {
     ports: Vec<Inbox>,
@@ -68,28 +71,23 @@ fn parts_sent(kept: &PortMessages, x: Transaction) -> Sent
                 sync: false,
             }),
         },
-        None => {
-            if has_second(x.addr) {
-                Sent {
-                    first: None,
-                    last: None,
-                }
+        None => Sent {
+            first: None,
+            last: if has_second(x.addr) {
+                None
             } else {
-                Sent {
-                    first: None,
-                    last: Some(Part {
-                        transaction: x,
-                        second: false,
-                        sync: is_sync_word(x.addr),
-                    }),
-                }
-            }
-        }
+                Some(Part {
+                    transaction: x,
+                    second: false,
+                    sync: is_sync_word(x.addr),
+                })
+            },
+        },
     }
 }
 
-/// The empty inbox of the port: that of an ACE port has room for a part under each identifier of each port, that of an ACE-Lite port
-/// has none.
+/// The empty inbox of the port: that of an ACE port has room for a part under each identifier of
+/// each port, that of an ACE-Lite port has none.
 fn empty_inbox(alloc: Global, header: &Header, port: u8) -> Result<Inbox, AllocError>
     ensures { IfOk result (IsEmptyInbox header.now port) }
 {
@@ -166,6 +164,17 @@ fn next_message_in(inbox: &Inbox) -> Option<Message>
     }
 }
 
+/// The port that sends the part that is forwarded next.
+fn next_sender_in(inbox: &Inbox) -> Option<u8>
+    ensures { result ≡ option_map (λ (m : Message). m.first.port)
+        (next_message_in inbox.now.parts.items inbox.now.forwarded) }
+{
+    match inbox.parts.get(inbox.forwarded) {
+        None => None,
+        Some(part) => Some(part.transaction.port),
+    }
+}
+
 /// An AC of the kind forwards the next part, and no other AC comes before a second part.
 #[inline(always)]
 fn forwards_in(inbox: &Inbox, addr: u32, kind: SnoopKind) -> bool
@@ -191,6 +200,7 @@ impl Inboxes {
     ghost use Rattle.ace_model.specs.Grants.{ports_below};
     ghost use Rattle.ace_model.specs.Messages.{is_other_ace};
     ghost use Rattle.ace_portck.specs.Targets.{Recording, after};
+    ghost use Rattle.ace_sysck.specs.declared.inboxes.Message.{Message};
     ghost use Rattle.ace_sysck.specs.Inboxes.{InboxesStand, SendsAll, SendsOne, ForwardsTo, AnswersFirst, first_is_sync, sent_list, awaits, message_of, next_in, next_message};
 
     /// The inboxes of the empty trace under the header.
@@ -218,11 +228,31 @@ impl Inboxes {
     }
 
     /// The message that is forwarded to the port next, which is an ACE port, from its next part on.
+    #[tactic(auto, using(crate::proofs::Forwarding::InboxRules::next_messages))]
     pub fn next_message(&self, port: u8) -> Option<Message>
         ensures { (r : Recording) → InboxesStand r self.now → is_ace r.header port ≡ true
             → result ≡ next_message r.past port }
     {
         self.message_of(port)
+    }
+
+    /// The port that sends the message that the inbox of the port has next.
+    fn sender_of(&self, port: u8) -> Option<u8>
+        ensures { result ≡ option_map (λ (m : Message). m.first.port)
+            (message_of (slice_get self.now.ports.items port)) }
+    {
+        match self.ports.get(port as usize) {
+            None => None,
+            Some(inbox) => next_sender_in(inbox),
+        }
+    }
+
+    /// The port that sends the message that is forwarded to this port next, which is an ACE port.
+    pub(crate) fn next_sender(&self, port: u8) -> Option<u8>
+        ensures { (r : Recording) → InboxesStand r self.now → is_ace r.header port ≡ true
+            → result ≡ option_map (λ (m : Message). m.first.port) (next_message r.past port) }
+    {
+        self.sender_of(port)
     }
 
     /// The part at the place is one that the port has not answered.
@@ -235,7 +265,8 @@ impl Inboxes {
         }
     }
 
-    /// An AC of the kind forwards the next part to the port, and no other AC of the port comes before a second part.
+    /// An AC of the kind forwards the next part to the port, and no other AC of the port comes
+    /// before a second part.
     #[inline(always)]
     pub(crate) fn forwards(&self, port: u8, addr: u32, kind: SnoopKind) -> bool
         ensures { result ≡ forwards_in (next_in (slice_get self.now.ports.items port)) addr kind }
@@ -246,18 +277,26 @@ impl Inboxes {
         }
     }
 
-    /// Every other ACE port has answered the part, which doesn't wait for its second.
+    /// The port is another ACE port, and hasn't answered the part, which may wait for its second.
+    fn lacks(&self, header: &Header, x: &Transaction, waiting: bool, port: u8) -> bool
+        ensures { result ≡ not (implies (is_other_ace header.now x.now.port port)
+            (not (waiting || awaits self.now port x.now.place))) }
+    {
+        is_ace(header, port) && port != x.port && (waiting || self.awaits(port, x.place))
+    }
+
+    /// Every other ACE port has answered the part, which doesn't wait for its second. No port is
+    /// asked after the first that hasn't.
     pub fn is_answered_by_all(&self, header: &Header, x: &Transaction, waiting: bool) -> bool
-        ensures { result
-            ≡ list_all (λ q. implies (is_other_ace header.now x.now.port q)
+        ensures { result ≡ list_all (λ q. implies (is_other_ace header.now x.now.port q)
             (not (waiting || awaits self.now q x.now.place))) (ports_below header.now.ports) }
     {
-        let mut all = true;
-        for q in 0..header.ports {
-            let other = is_ace(header, q) && q != x.port;
-            all = (!other || !(waiting || self.awaits(q, x.place))) && all;
+        for port in 0..header.ports {
+            if self.lacks(header, x, waiting, port) {
+                return false;
+            }
         }
-        all
+        true
     }
 
     /// Sends the parts to each port but the sender.
@@ -270,8 +309,8 @@ impl Inboxes {
         }
     }
 
-    /// The port of a part issues it: where that ends a message, its parts are sent to each other port. `kept` is what is kept of the
-    /// messages of the port before it.
+    /// The port of a part issues it: where that ends a message, its parts are sent to each other
+    /// port. `kept` is what is kept of the messages of the port before it.
     #[inline(always)]
     pub(crate) fn send_with(&mut self, kept: &PortMessages, x: Transaction)
         ensures size { length self.new.ports.items ≡ length self.old.ports.items }

@@ -7,7 +7,8 @@ use ace_codes::ArKind;
 use ace_model::Transaction;
 use ace_model::kinds::read_kind;
 
-/// A part of a DVM message (Arm IHI 0022E, C12). Few transactions have its code, so most need no look at the rest.
+/// A part of a DVM message (Arm IHI 0022E, C12). Few transactions have its code, so most need no
+/// look at the rest.
 #[inline(always)]
 #[tactic(auto, using(crate::proofs::MessageCodes::no_part))]
 pub fn is_message_part(x: &Transaction) -> bool

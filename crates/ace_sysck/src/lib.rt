@@ -4,6 +4,7 @@
 mod acknowledges;
 mod barrier_addresses;
 mod barriers;
+mod entries;
 mod grants;
 mod hearing;
 mod inboxes;

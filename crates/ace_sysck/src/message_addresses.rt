@@ -1,7 +1,9 @@
-//! An AR of a DVM Message or a DVM Complete: the rules of the share that it may break, and what it moves (Arm IHI 0022E, C12).
+//! An AR of a DVM Message or a DVM Complete: the rules of the share that it may break, and what it
+//! moves (Arm IHI 0022E, C12).
 
 use crate::SysCheck;
 use ace_model::Transaction;
+use ace_portck::unless;
 
 impl SysCheck {
     ghost use Rattle.std.specs.Prelude.{◌≡◌, ◌<◌, ◌-◌, ◌^◌, ℕ, Bool, true, None, Some, length};
@@ -19,7 +21,8 @@ impl SysCheck {
     ghost use Rattle.ace_portck.specs.Targets.{Recording, after};
     ghost use Rattle.ace_sysck.specs.Stands.{Stands, IsRoomy};
 
-    /// The least rule of the share that an AR of a DVM Message breaks: K9, where it may not follow what the port has issued of messages.
+    /// The least rule of the share that an AR of a DVM Message breaks: K9, where it may not follow
+    /// what the port has issued of messages.
     #[inline(always)]
     pub fn rule_of_message_ar(&self, port: u8, addr: u32, dom: u8, bar: u8) -> Option<u8>
         ensures { (r : Recording) (id snoop : ℕ) (lock : Bool) → Stands self.now r
@@ -27,11 +30,7 @@ impl SysCheck {
             → k1 r.header r.past (Ar port id addr snoop dom bar lock) ≡ true
             → result ≡ least_of system_rules r.header r.past (Ar port id addr snoop dom bar lock) }
     {
-        if self.messages.lets_begin(port, addr, dom, bar) {
-            None
-        } else {
-            Some(9)
-        }
+        unless(self.messages.lets_begin(port, addr, dom, bar), Some(9))
     }
 
     /// Takes an AR of a DVM Message that breaks no rule. Where it ends a message, the inbox of
@@ -51,8 +50,8 @@ impl SysCheck {
         self.messages.issue(*part);
     }
 
-    /// The least rule of the share that an AR of a DVM Complete breaks: K9, where the address isn't 0, or K38, where the port has answered
-    /// no more Syncs than it has issued DVM Completes.
+    /// The least rule of the share that an AR of a DVM Complete breaks: K9, where the address isn't
+    /// 0, or K38, where the port has answered no more Syncs than it has issued DVM Completes.
     #[inline(always)]
     pub fn rule_of_completion_ar(&self, port: u8, addr: u32) -> Option<u8>
         ensures { (r : Recording) (id snoop dom bar : ℕ) (lock : Bool) → Stands self.now r
@@ -63,15 +62,12 @@ impl SysCheck {
         if addr != 0 {
             return Some(9);
         }
-        if self.syncs.owes_completion(port) {
-            None
-        } else {
-            Some(38)
-        }
+        unless(self.syncs.owes_completion(port), Some(38))
     }
 
     /// Takes an AR of a DVM Complete with lock 0 that breaks no rule.
     #[inline(always)]
+    #[tactic(auto, using(crate::proofs::ByKind::MessageAddresses::completion_stands))]
     pub fn begin_completion(&mut self, port: u8, id: u8)
         ensures stands { (r : Recording) (addr snoop dom bar : ℕ) (lock : Bool) → Stands self.old r
             → is_completion snoop dom bar lock ≡ true

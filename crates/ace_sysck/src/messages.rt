@@ -5,6 +5,7 @@ ghost use Rattle.ace_sysck.specs.Messages.{is_new_sync, part_issued, part_comple
 ghost use Rattle.ace_model.specs.Messages.{waits_after};
 ghost use Rattle.ace_model.specs.declared.transactions.Transaction.{Transaction};
 
+use crate::entries::{entry_or, set_entry};
 use crate::words::{has_second, is_message_word, is_sync_word};
 use ace_model::Transaction;
 use std::alloc::{AllocError, Global};
@@ -21,6 +22,14 @@ pub struct PortMessages {
     /// An AC DVM Complete has come since that Sync.
     pub sync_completed: bool,
 }
+
+/// Of a port that has issued none.
+const SILENT: PortMessages = PortMessages {
+    first: None,
+    sync: None,
+    sync_done: false,
+    sync_completed: false,
+};
 
 /// For each port of the header, what is kept of the messages that it issues.
 #[derive(Drop)]
@@ -59,9 +68,7 @@ fn part_issued(kept: PortMessages, x: Transaction) -> PortMessages
     } else {
         PortMessages {
             first: waits_after(kept.first, x),
-            sync: kept.sync,
-            sync_done: kept.sync_done,
-            sync_completed: kept.sync_completed,
+            ..kept
         }
     }
 }
@@ -78,7 +85,8 @@ pub fn is_at(x: Option<Transaction>, place: usize) -> bool
 
 /// The port may issue a part with these fields.
 fn is_in_order(kept: &PortMessages, addr: u32, dom: u8, bar: u8) -> bool
-    ensures { (x : Transaction) → x.addr ≡ addr → x.dom ≡ dom → x.bar ≡ bar → result ≡ is_in_order kept.now x }
+    ensures { (x : Transaction) → x.addr ≡ addr → x.dom ≡ dom → x.bar ≡ bar
+        → result ≡ is_in_order kept.now x }
 {
     match kept.first {
         Some(first) => dom == first.dom && bar == first.bar,
@@ -98,51 +106,29 @@ impl Messages {
     ghost use Rattle.ace_sysck.specs.Messages.{MessagesStand, silent, PortMessagesStand};
 
     /// What is kept after the empty trace, of so many ports.
+    #[tactic(auto, using(crate::proofs::MessageSteps::messages_fresh))]
     pub fn new(alloc: Global, ports: u8) -> Result<Messages, AllocError>
-        ensures { IfOk result (λ s. (h : Header) → h.ports ≡ ports → MessagesStand (record { header = h; past = [] }) s) }
+        ensures { IfOk result (λ s. (h : Header) → h.ports ≡ ports
+            → MessagesStand (record { header = h; past = [] }) s) }
     {
-        let mut all = Vec::new(alloc);
-        for _port in 0..ports {
-            all.push(PortMessages {
-                first: None,
-                sync: None,
-                sync_done: false,
-                sync_completed: false,
-            })?;
-        }
-        Ok(Messages { ports: all })
+        let ports = vec![in alloc; SILENT; usize::from(ports)]?;
+        Ok(Messages { ports })
     }
 
     /// What is kept of the messages of the port.
     pub fn of(&self, port: u8) -> PortMessages
         ensures kept { result ≡ slice_index_or self.now.ports.items port silent }
-        ensures stands { (r : Recording) → MessagesStand r self.now → PortMessagesStand r.past port result }
+        ensures stands { (r : Recording) → MessagesStand r self.now
+            → PortMessagesStand r.past port result }
     {
-        let p = port as usize;
-        if p < self.ports.len() {
-            self.ports[p]
-        } else {
-            PortMessages {
-                first: None,
-                sync: None,
-                sync_done: false,
-                sync_completed: false,
-            }
-        }
+        entry_or(&self.ports, port, SILENT)
     }
 
-    fn set(&mut self, port: u8, kept: PortMessages)
-        ensures { self.new.ports.items ≡ slice_set self.old.ports.items port kept }
-    {
-        let p = port as usize;
-        if p < self.ports.len() {
-            self.ports[p] = kept;
-        }
-    }
-
-    /// The port's transaction at the place is complete. It is looked at only where the port has issued a Sync.
+    /// The port's transaction at the place is complete. It is looked at only where the port has
+    /// issued a Sync.
     pub(crate) fn complete(&mut self, port: u8, place: usize)
-        ensures { self.new.ports.items ≡ slice_set self.old.ports.items port (part_completed (slice_index_or self.old.ports.items port silent) place) }
+        ensures { self.new.ports.items ≡ slice_set self.old.ports.items port
+            (part_completed (slice_index_or self.old.ports.items port silent) place) }
     {
         let p = port as usize;
         if p < self.ports.len() {
@@ -157,19 +143,15 @@ impl Messages {
     pub(crate) fn awaits_complete(&self, port: u8) -> bool
         ensures { result ≡ awaits_complete (slice_index_or self.now.ports.items port silent) }
     {
-        let p = port as usize;
-        if p < self.ports.len() {
-            let kept = &self.ports[p];
-            kept.sync.is_some() && kept.sync_done && !kept.sync_completed
-        } else {
-            false
-        }
+        let kept = self.of(port);
+        kept.sync.is_some() && kept.sync_done && !kept.sync_completed
     }
 
     /// The port's last Sync has had its AC DVM Complete.
     #[inline(always)]
     pub(crate) fn tell_complete(&mut self, port: u8)
-        ensures { self.new.ports.items ≡ slice_set self.old.ports.items port (told_complete (slice_index_or self.old.ports.items port silent)) }
+        ensures { self.new.ports.items ≡ slice_set self.old.ports.items port
+            (told_complete (slice_index_or self.old.ports.items port silent)) }
     {
         let p = port as usize;
         if p < self.ports.len() {
@@ -181,7 +163,8 @@ impl Messages {
     /// follows the part that the port issued before it.
     #[inline(always)]
     pub(crate) fn lets_begin(&self, port: u8, addr: u32, dom: u8, bar: u8) -> bool
-        ensures { (r : Recording) (x : Transaction) → MessagesStand r self.now → port < r.header.ports → x.addr ≡ addr → x.dom ≡ dom → x.bar ≡ bar
+        ensures { (r : Recording) (x : Transaction) → MessagesStand r self.now
+            → port < r.header.ports → x.addr ≡ addr → x.dom ≡ dom → x.bar ≡ bar
             → x.port ≡ port → result ≡ is_part_in_order r.past x (first_waiting r.past x.port) }
     {
         match self.ports.get(usize::from(port)) {
@@ -193,9 +176,10 @@ impl Messages {
     /// A port issues the part.
     #[inline(always)]
     pub(crate) fn issue(&mut self, x: Transaction)
-        ensures { self.new.ports.items ≡ slice_set self.old.ports.items x.port (part_issued (slice_index_or self.old.ports.items x.port silent) x) }
+        ensures { self.new.ports.items ≡ slice_set self.old.ports.items x.port
+            (part_issued (slice_index_or self.old.ports.items x.port silent) x) }
     {
         let kept = part_issued(self.of(x.port), x);
-        self.set(x.port, kept);
+        set_entry(&mut self.ports, x.port, kept);
     }
 }

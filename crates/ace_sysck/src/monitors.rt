@@ -3,17 +3,20 @@
 ghost use Rattle.std.specs.Prelude.{◌≡◌};
 ghost use Rattle.ace_sysck.specs.Monitors.{kept_after};
 
+use crate::entries::{entry_or, set_entry};
 use ace_codes::LineState;
 use std::alloc::{AllocError, Global};
 
-/// For each port of the header, the line that its monitor is set for: the line of its last exclusive load, where it made no
-/// exclusive store since then and never held the line in I (Arm IHI 0022E, C9).
+/// For each port of the header, the line that its monitor is set for: the line of its last
+/// exclusive load, where it made no exclusive store since then and never held the line in I (Arm
+/// IHI 0022E, C9).
 #[derive(Drop)]
 pub struct Monitors {
     lines: Vec<Option<u32>>,
 }
 
-/// The line that a monitor is set for, once its port is left in a state of a line: in I the monitor is no longer set for it.
+/// The line that a monitor is set for, once its port is left in a state of a line: in I the monitor
+/// is no longer set for it.
 #[inline(always)]
 fn kept_after(kept: Option<u32>, line: Option<u32>, state: LineState) -> Option<u32>
     ensures { result ≡ kept_after kept line state }
@@ -36,37 +39,20 @@ impl Monitors {
     ghost use Rattle.ace_sysck.specs.Monitors.{MonitorsStand, kept_after};
 
     /// The monitors of the empty trace, of so many ports.
+    #[tactic(auto, using(crate::proofs::MonitorSteps::monitors_fresh))]
     pub fn new(alloc: Global, ports: u8) -> Result<Monitors, AllocError>
         ensures { IfOk result (λ s. (h : Header) → h.ports ≡ ports
             → MonitorsStand (record { header = h; past = [] }) s) }
     {
-        let mut lines = Vec::new(alloc);
-        for _port in 0..ports {
-            lines.push(None)?;
-        }
+        let lines = vec![in alloc; None; usize::from(ports)]?;
         Ok(Monitors { lines })
-    }
-
-    #[inline(always)]
-    fn line_of(&self, port: u8) -> Option<u32>
-        ensures { result ≡ slice_index_or self.now.lines.items port None }
-    {
-        let p = port as usize;
-        if p < self.lines.len() {
-            self.lines[p]
-        } else {
-            None
-        }
     }
 
     #[inline(always)]
     fn set(&mut self, port: u8, line: Option<u32>)
         ensures { self.new.lines.items ≡ slice_set self.old.lines.items port line }
     {
-        let p = port as usize;
-        if p < self.lines.len() {
-            self.lines[p] = line;
-        }
+        set_entry(&mut self.lines, port, line);
     }
 
     /// K33, of a D: with x 1 the monitor of its port is set for the line.
@@ -75,7 +61,7 @@ impl Monitors {
         ensures { (r : Recording) → MonitorsStand r self.now
             → result ≡ implies x (is_monitored r.header r.past port addr) }
     {
-        !x || self.line_of(port) == Some(addr)
+        !x || entry_or(&self.lines, port, None) == Some(addr)
     }
 
     /// The port is left in this state of the line.
@@ -85,7 +71,7 @@ impl Monitors {
             ≡ slice_set self.old.lines.items port
             (kept_after (slice_index_or self.old.lines.items port None) line state) }
     {
-        let kept = kept_after(self.line_of(port), line, state);
+        let kept = kept_after(entry_or(&self.lines, port, None), line, state);
         self.set(port, kept);
     }
 

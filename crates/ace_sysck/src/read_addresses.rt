@@ -13,9 +13,10 @@ impl SysCheck {
     ghost use Rattle.ace_portck.specs.Targets.{Recording, after};
     ghost use Rattle.ace_sysck.specs.Stands.{Stands, IsRoomy};
 
-    /// Takes an AR of a line read that breaks no rule, whatever its lock is: the last exclusive store of its name, if there was one, is
-    /// no longer the last read of that name, and an exclusive store has no result before its G (Arm IHI 0022E, C9). It is part of no
-    /// barrier and of no DVM message.
+    /// Takes an AR of a line read that breaks no rule, whatever its lock is: the last exclusive
+    /// store of its name, if there was one, is no longer the last read of that name, and an
+    /// exclusive store has no result before its G (Arm IHI 0022E, C9). It is part of no barrier and
+    /// of no DVM message.
     #[inline(always)]
     pub fn begin_line_read(&mut self, port: u8, id: u8)
         ensures stands { (r : Recording) (addr snoop dom bar : ℕ) (lock : Bool) (k : ArKind)

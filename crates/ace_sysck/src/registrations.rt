@@ -9,27 +9,30 @@ use ace_model::kinds::is_exclusive_store;
 use indexmap::IndexMap;
 use std::alloc::{AllocError, Global};
 
-/// For each line that was granted to a transaction with lock 1, the ports that are registered for it: bit p is 1 exactly where
-/// port p is (Arm IHI 0022E, C9).
+/// For each line that was granted to a transaction with lock 1, the ports that are registered for
+/// it: bit p is 1 exactly where port p is (Arm IHI 0022E, C9).
 #[derive(Drop)]
 pub struct Registrations {
     lines: IndexMap<u32, u32>,
 }
 
 /// The bits with that of the port set. No header has a port from 32 on.
+#[tactic(auto, using(crate::proofs::RegistrationSteps::bit_set))]
 fn with_port(bits: u32, port: u8) -> u32
     ensures { port < 32 → (p : ℕ) → (bit_at result p == 1) ≡ ((port == p) || (bit_at bits p == 1)) }
 {
     if port < 32 { bits | 1 << port } else { bits }
 }
 
+#[tactic(auto, using(crate::proofs::RegistrationSteps::bit_unset))]
 fn has_port(bits: u32, port: u8) -> bool
     ensures { result ≡ (bit_at bits port == 1) }
 {
     port < 32 && bits >> port & 1 == 1
 }
 
-/// The ports whose registrations the G of the transaction doesn't end: none where it is an exclusive store that passes.
+/// The ports whose registrations the G of the transaction doesn't end: none where it is an
+/// exclusive store that passes.
 fn kept_bits(x: &Transaction, bits: u32) -> u32
     ensures { result ≡ kept_bits x.now bits }
 {
@@ -111,8 +114,8 @@ impl Registrations {
         Ok(())
     }
 
-    /// Registers the port of the transaction with lock 1, which is granted its line, if the line has a place; says whether it has. If it
-    /// has none, nothing has changed.
+    /// Registers the port of the transaction with lock 1, which is granted its line, if the line
+    /// has a place; says whether it has. If it has none, nothing has changed.
     pub fn register(&mut self, x: &Transaction) -> bool
         ensures stands { (r : Recording) (e : Event) (t : Target) → IsStep r e t
             → locked_in e t ≡ Some x.now → RegistrationsStand r self.old → result ≡ true

@@ -2,8 +2,9 @@
 
 use std::alloc::{AllocError, Global};
 
-/// For each port and identifier: whether the exclusive store that the port issued last under it passed at its G. None where
-/// there is none, or it had no G. It has 256 places for each port of the header.
+/// For each port and identifier: whether the exclusive store that the port issued last under it
+/// passed at its G. None where there is none, or it had no G. It has 256 places for each port of
+/// the header.
 #[derive(Drop)]
 pub struct Results {
     passed: Vec<Option<bool>>,
@@ -17,21 +18,20 @@ impl Results {
     ghost use Rattle.ace_sysck.specs.Results.{ResultsStand, slot_of};
 
     /// The results of the empty trace, of so many ports.
+    #[tactic(auto, using(crate::proofs::ResultSteps::results_fresh))]
     pub fn new(alloc: Global, ports: u8) -> Result<Results, AllocError>
-        ensures { IfOk result (λ s. (h : Header) → h.ports ≡ ports → ResultsStand (record { header = h; past = [] }) s) }
+        ensures { IfOk result (λ s. (h : Header) → h.ports ≡ ports
+            → ResultsStand (record { header = h; past = [] }) s) }
     {
-        let size = ports as usize * 256;
-        let mut passed = Vec::new(alloc);
-        for _slot in 0..size {
-            passed.push(None)?;
-        }
+        let passed = vec![in alloc; None; usize::from(ports) * 256]?;
         Ok(Results { passed })
     }
 
     /// Whether the exclusive store that the port issued last under the identifier passed at its G.
     #[inline(always)]
     pub fn passed(&self, port: u8, id: u8) -> Option<bool>
-        ensures { (r : Recording) → ResultsStand r self.now → result ≡ passed_at_grant r.past port id }
+        ensures { (r : Recording) → ResultsStand r self.now
+            → result ≡ passed_at_grant r.past port id }
     {
         let slot = port as usize * 256 + id as usize;
         if slot < self.passed.len() {

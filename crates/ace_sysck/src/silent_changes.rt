@@ -11,8 +11,8 @@ impl SysCheck {
     ghost use Rattle.ace_portck.specs.Targets.{Recording, after};
     ghost use Rattle.ace_sysck.specs.Stands.{Stands, IsRoomy};
 
-    /// Takes an S that breaks no rule: where it leaves its port without the line, the port's monitor is no longer set for the line
-    /// (Arm IHI 0022E, C9).
+    /// Takes an S that breaks no rule: where it leaves its port without the line, the port's
+    /// monitor is no longer set for the line (Arm IHI 0022E, C9).
     #[inline(always)]
     pub fn change(&mut self, port: u8, addr: u32, st: LineState)
         ensures stands { (r : Recording) → Stands self.old r

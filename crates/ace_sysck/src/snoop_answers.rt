@@ -1,4 +1,5 @@
-//! A CR: it moves the monitor of its port and, where it answers a part of a DVM message, what is kept of the messages that are forwarded.
+//! A CR: it moves the monitor of its port and, where it answers a part of a DVM message, what is
+//! kept of the messages that are forwarded.
 
 ghost use Rattle.std.specs.Prelude.{◌≡◌};
 ghost use Rattle.ace_model.specs.Kinds.{is_message_snoop};
@@ -23,7 +24,8 @@ impl SysCheck {
     ghost use Rattle.ace_portck.specs.Targets.{Recording, after, line_of_snoop};
     ghost use Rattle.ace_sysck.specs.Stands.{Stands, IsRoomy};
 
-    /// Takes a CR that answers a snoop of the kind, of this line if it is a line snoop, and breaks no rule.
+    /// Takes a CR that answers a snoop of the kind, of this line if it is a line snoop, and breaks
+    /// no rule.
     #[inline(always)]
     pub fn hear_snoop_answer(&mut self, port: u8, kind: SnoopKind, line: Option<u32>, st: LineState)
         ensures stands { (r : Recording) (x : Snoop) (resp : ℕ) → Stands self.old r

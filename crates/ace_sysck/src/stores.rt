@@ -1,6 +1,8 @@
-//! A D: the rule of the share that it may break, and what it moves: the monitor of its port, if it is exclusive.
+//! A D: the rule of the share that it may break, and what it moves: the monitor of its port, if it
+//! is exclusive.
 
 use crate::SysCheck;
+use ace_portck::unless;
 
 impl SysCheck {
     ghost use Rattle.std.specs.Prelude.{◌≡◌, ◌<◌, ◌-◌, ◌^◌, ℕ, None, length};
@@ -12,18 +14,14 @@ impl SysCheck {
     ghost use Rattle.ace_portck.specs.Targets.{Recording, after};
     ghost use Rattle.ace_sysck.specs.Stands.{Stands, IsRoomy};
 
-    /// The least rule of the share that a D breaks: K33, where it is exclusive and the monitor of its port isn't set for the line (Arm
-    /// IHI 0022E, C9).
+    /// The least rule of the share that a D breaks: K33, where it is exclusive and the monitor of
+    /// its port isn't set for the line (Arm IHI 0022E, C9).
     #[inline(always)]
     pub fn rule_of_d(&self, port: u8, addr: u32, x: bool) -> Option<u8>
         ensures { (r : Recording) (strobe : ℕ) (line : Line) → Stands self.now r
             → result ≡ least_of system_rules r.header r.past (D port addr strobe x line) }
     {
-        if self.monitors.lets_store(port, addr, x) {
-            None
-        } else {
-            Some(33)
-        }
+        unless(self.monitors.lets_store(port, addr, x), Some(33))
     }
 
     /// Takes a D that breaks no rule.

@@ -3,6 +3,7 @@
 ghost use Rattle.std.specs.Prelude.{◌≡◌};
 ghost use Rattle.ace_sysck.specs.Syncs.{next_count, reached_by, one_answered, one_completed};
 
+use crate::entries::{entry_or, set_entry};
 use crate::inboxes::Inboxes;
 use crate::messages::{PortMessages, is_new_sync};
 use ace_event::Header;
@@ -22,6 +23,14 @@ pub struct PortSyncs {
     /// For each port, which of the Syncs for this port its last Sync is, from 1.
     pub numbers: [usize; 32],
 }
+
+/// Of a port that none has reached.
+const UNTOLD: PortSyncs = PortSyncs {
+    reached: 0,
+    answered: 0,
+    completes: 0,
+    numbers: [0; 32],
+};
 
 /// For each port of the header, what is kept of the Syncs that reach it.
 #[derive(Drop)]
@@ -48,21 +57,17 @@ fn reached_by(kept: PortSyncs, sender: u8, own: bool) -> PortSyncs
     }
     PortSyncs {
         reached: if own { kept.reached } else { number },
-        answered: kept.answered,
-        completes: kept.completes,
         numbers,
+        ..kept
     }
 }
 
 fn one_completed(kept: PortSyncs) -> PortSyncs
     ensures { result ≡ one_completed kept }
 {
-    let numbers = kept.numbers;
     PortSyncs {
-        reached: kept.reached,
-        answered: kept.answered,
         completes: next_count(kept.completes),
-        numbers,
+        ..kept
     }
 }
 
@@ -82,60 +87,31 @@ impl Syncs {
     ghost use Rattle.ace_sysck.specs.Syncs.{SyncsStand, ReachesAll, completes_all, one_completed, untold};
 
     /// What is kept after the empty trace, of so many ports.
+    #[tactic(auto, using(crate::proofs::SyncSteps::syncs_fresh))]
     pub fn new(alloc: Global, ports: u8) -> Result<Syncs, AllocError>
-        ensures { IfOk result (λ s. (h : Header) → h.ports ≡ ports → SyncsStand (record { header = h; past = [] }) s) }
+        ensures { IfOk result (λ s. (h : Header) → h.ports ≡ ports
+            → SyncsStand (record { header = h; past = [] }) s) }
     {
-        let mut all = Vec::new(alloc);
-        for _port in 0..ports {
-            all.push(PortSyncs {
-                reached: 0,
-                answered: 0,
-                completes: 0,
-                numbers: [0; 32],
-            })?;
-        }
-        Ok(Syncs { ports: all })
-    }
-
-    fn of(&self, port: u8) -> PortSyncs
-        ensures { result ≡ slice_index_or self.now.ports.items port untold }
-    {
-        let p = port as usize;
-        if p < self.ports.len() {
-            self.ports[p]
-        } else {
-            PortSyncs {
-                reached: 0,
-                answered: 0,
-                completes: 0,
-                numbers: [0; 32],
-            }
-        }
-    }
-
-    fn set(&mut self, port: u8, kept: PortSyncs)
-        ensures { self.new.ports.items ≡ slice_set self.old.ports.items port kept }
-    {
-        let p = port as usize;
-        if p < self.ports.len() {
-            self.ports[p] = kept;
-        }
+        let ports = vec![in alloc; UNTOLD; usize::from(ports)]?;
+        Ok(Syncs { ports })
     }
 
     /// The port has answered more Syncs than it has issued DVM Completes.
     pub(crate) fn owes_completion(&self, port: u8) -> bool
-        ensures { result ≡ nat_lt (slice_index_or self.now.ports.items port untold).completes (slice_index_or self.now.ports.items port untold).answered }
+        ensures { result ≡ nat_lt (slice_index_or self.now.ports.items port untold).completes
+            (slice_index_or self.now.ports.items port untold).answered }
     {
-        let kept = self.of(port);
+        let kept = entry_or(&self.ports, port, UNTOLD);
         kept.completes < kept.answered
     }
 
     /// The port has issued a DVM Complete.
     pub(crate) fn complete(&mut self, port: u8)
-        ensures { self.new.ports.items ≡ slice_set self.old.ports.items port (one_completed (slice_index_or self.old.ports.items port untold)) }
+        ensures { self.new.ports.items ≡ slice_set self.old.ports.items port
+            (one_completed (slice_index_or self.old.ports.items port untold)) }
     {
-        let more = one_completed(self.of(port));
-        self.set(port, more);
+        let more = one_completed(entry_or(&self.ports, port, UNTOLD));
+        set_entry(&mut self.ports, port, more);
     }
 
     /// Every other ACE port has issued its DVM Complete for the port's last Sync.
@@ -151,9 +127,11 @@ impl Syncs {
 
     /// The port has issued its DVM Complete for the last Sync of the sender.
     fn has_completed(&self, q: u8, sender: u8) -> bool
-        ensures { result ≡ nat_le (slice_index_or (slice_index_or self.now.ports.items q untold).numbers sender 0) (slice_index_or self.now.ports.items q untold).completes }
+        ensures { result ≡ nat_le (slice_index_or
+            (slice_index_or self.now.ports.items q untold).numbers sender 0)
+            (slice_index_or self.now.ports.items q untold).completes }
     {
-        let kept = self.of(q);
+        let kept = entry_or(&self.ports, q, UNTOLD);
         let p = sender as usize;
         let number = if p < 32 { kept.numbers[p] } else { 0 };
         number <= kept.completes
@@ -172,7 +150,8 @@ impl Syncs {
     /// The port has answered one more Sync.
     #[inline(always)]
     fn count_answer(&mut self, port: u8)
-        ensures { self.new.ports.items ≡ slice_set self.old.ports.items port (one_answered (slice_index_or self.old.ports.items port untold)) }
+        ensures { self.new.ports.items ≡ slice_set self.old.ports.items port
+            (one_answered (slice_index_or self.old.ports.items port untold)) }
     {
         let p = port as usize;
         if p < self.ports.len() {
@@ -183,9 +162,12 @@ impl Syncs {
 
     /// The port answers an AC DVM Message. The inboxes are those before it.
     #[inline(always)]
+    #[tactic(auto, using(crate::proofs::SyncSteps::syncs_answered))]
     pub fn answer(&mut self, port: u8, inboxes: &Inboxes)
-        ensures { (r : Recording) (resp : ℕ) (st : LineState) (t : Target) → IsStep r (Cr port resp st) t → answers_message t ≡ true
-            → InboxesStand r inboxes.now → SyncsStand r self.old → SyncsStand (after r (Cr port resp st)) self.new }
+        ensures { (r : Recording) (resp : ℕ) (st : LineState) (t : Target)
+            → IsStep r (Cr port resp st) t → answers_message t ≡ true
+            → InboxesStand r inboxes.now → SyncsStand r self.old
+            → SyncsStand (after r (Cr port resp st)) self.new }
     {
         if inboxes.answers_sync(port) {
             self.count_answer(port);
@@ -194,9 +176,12 @@ impl Syncs {
 
     /// A port issues the part. `kept` is what is kept of the messages of the port before it.
     #[inline(always)]
+    #[tactic(auto, using(crate::proofs::SyncSteps::syncs_begun))]
     pub(crate) fn issue(&mut self, kept: &PortMessages, x: &Transaction)
-        ensures { (r : Recording) (e : Event) (t : Target) → IsStep r e t → begun_in e t ≡ Some x.now → is_message_part x.now ≡ true
-            → PortMessagesStand r.past x.now.port kept.now → SyncsStand r self.old → SyncsStand (after r e) self.new }
+        ensures { (r : Recording) (e : Event) (t : Target) → IsStep r e t
+            → begun_in e t ≡ Some x.now → is_message_part x.now ≡ true
+            → PortMessagesStand r.past x.now.port kept.now → SyncsStand r self.old
+            → SyncsStand (after r e) self.new }
     {
         if is_new_sync(kept, x) {
             self.reach_all(x.port);

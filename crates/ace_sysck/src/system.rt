@@ -15,7 +15,8 @@ use ace_io::NoMemory;
 use ace_model::Transaction;
 use std::alloc::Global;
 
-/// The checker of the rules on barriers, DVM messages and exclusive transactions: what is kept of each after a trace.
+/// The checker of the rules on barriers, DVM messages and exclusive transactions: what is kept of
+/// each after a trace.
 #[derive(Drop)]
 pub struct SysCheck {
     pub(crate) header: Header,
@@ -30,6 +31,7 @@ pub struct SysCheck {
 
 impl SysCheck {
     ghost use Rattle.std.specs.Prelude.{◌≡◌, [], true, Some, IfOk};
+    ghost use Rattle.std.specs.Option.{option_map};
     ghost use Rattle.ace_event.specs.Ports.{IsHeader};
     ghost use Rattle.ace_event.specs.declared.event.Channel.TheVariants.{Read};
     ghost use Rattle.ace_model.specs.declared.transactions.Transaction.{Transaction};
@@ -38,13 +40,16 @@ impl SysCheck {
     ghost use Rattle.ace_model.specs.Transactions.{is_ace, outstanding};
     ghost use Rattle.ace_portck.specs.Targets.{Recording, after};
     ghost use Rattle.ace_sysck.specs.Barriers.{TellsOpenPair};
+    ghost use Rattle.ace_sysck.specs.declared.inboxes.Message.{Message as Next};
     ghost use Rattle.ace_sysck.specs.Inboxes.{next_message};
     ghost use Rattle.ace_sysck.specs.Registrations.{RegistrationsStand};
     ghost use Rattle.ace_sysck.specs.Stands.{Stands, IsRoomy};
 
-    /// The checker of the empty trace under the header. There is no memory for it where there is none for its ports.
+    /// The checker of the empty trace under the header. There is no memory for it where there is
+    /// none for its ports.
     pub fn new(alloc: Global, header: Header) -> Result<SysCheck, NoMemory>
-        ensures { IfOk result (λ s. IsHeader header → Stands s (record { header = header; past = [] })) }
+        ensures { IfOk result
+            (λ s. IsHeader header → Stands s (record { header = header; past = [] })) }
     {
         SysCheck::starting(alloc, header, Registrations::new(alloc))
     }
@@ -52,7 +57,8 @@ impl SysCheck {
     /// The same, with room for so many lines: as long as no more are known, there is room for any
     /// event.
     pub fn with_room(alloc: Global, header: Header, lines: usize) -> Result<SysCheck, NoMemory>
-        ensures stands { IfOk result (λ s. IsHeader header → Stands s (record { header = header; past = [] })) }
+        ensures stands { IfOk result
+            (λ s. IsHeader header → Stands s (record { header = header; past = [] })) }
         ensures room { IfOk result (IsRoomy lines []) }
     {
         let Ok(registrations) = Registrations::with_room(alloc, lines) else {
@@ -68,38 +74,26 @@ impl SysCheck {
         registrations: Registrations,
     ) -> Result<SysCheck, NoMemory>
         ensures stands { RegistrationsStand (record { header = header; past = [] }) registrations
-            → IfOk result (λ s. IsHeader header → Stands s (record { header = header; past = [] })) }
+            → IfOk result
+            (λ s. IsHeader header → Stands s (record { header = header; past = [] })) }
         ensures registrations { IfOk result (λ s. s.registrations ≡ registrations) }
     {
         let Ok(barriers) = Barriers::new(alloc, header.ports) else {
-            drop(registrations);
             return Err(NoMemory);
         };
         let Ok(monitors) = Monitors::new(alloc, header.ports) else {
-            drop((registrations, barriers));
             return Err(NoMemory);
         };
         let Ok(results) = Results::new(alloc, header.ports) else {
-            drop((registrations, barriers, monitors));
             return Err(NoMemory);
         };
         let Ok(messages) = Messages::new(alloc, header.ports) else {
-            drop((registrations, barriers, monitors, results));
             return Err(NoMemory);
         };
         let Ok(inboxes) = Inboxes::new(alloc, &header) else {
-            drop((registrations, barriers, monitors, results, messages));
             return Err(NoMemory);
         };
         let Ok(syncs) = Syncs::new(alloc, header.ports) else {
-            drop((
-                registrations,
-                barriers,
-                monitors,
-                results,
-                messages,
-                inboxes,
-            ));
             return Err(NoMemory);
         };
         Ok(SysCheck {
@@ -121,16 +115,27 @@ impl SysCheck {
         self.barriers.open_pair(port)
     }
 
-    /// The DVM message that is forwarded to the port next, which is an ACE port, from its next part on.
+    /// The DVM message that is forwarded to the port next, which is an ACE port, from its next part
+    /// on.
     pub fn next_message(&self, port: u8) -> Option<Message>
-        ensures { (r : Recording) → Stands self.now r → is_ace r.header port ≡ true → result ≡ next_message r.past port }
+        ensures { (r : Recording) → Stands self.now r → is_ace r.header port ≡ true
+            → result ≡ next_message r.past port }
     {
         self.inboxes.next_message(port)
     }
 
+    /// The port that sends that message.
+    pub fn next_sender(&self, port: u8) -> Option<u8>
+        ensures { (r : Recording) → Stands self.now r → is_ace r.header port ≡ true
+            → result ≡ option_map (λ (m : Next). m.first.port) (next_message r.past port) }
+    {
+        self.inboxes.next_sender(port)
+    }
+
     /// Whether the port's outstanding read under the identifier is an exclusive store that failed.
     pub fn failed(&self, port: u8, id: u8) -> bool
-        ensures { (r : Recording) (x : Transaction) → Stands self.now r → outstanding r.header r.past port Read id ≡ Some x → result ≡ has_failed r.past x }
+        ensures { (r : Recording) (x : Transaction) → Stands self.now r
+            → outstanding r.header r.past port Read id ≡ Some x → result ≡ has_failed r.past x }
     {
         match self.results.passed(port, id) {
             None => false,
@@ -138,7 +143,8 @@ impl SysCheck {
         }
     }
 
-    /// Whether the read is an exclusive load, or an exclusive store that passed: its response is EXOKAY.
+    /// Whether the read is an exclusive load, or an exclusive store that passed: its response is
+    /// EXOKAY.
     pub fn is_okay(&self, read: &Transaction) -> bool
         ensures { (r : Recording) → Stands self.now r → result ≡ is_exclusive_okay r.past read.now }
     {

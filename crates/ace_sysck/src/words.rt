@@ -36,7 +36,8 @@ fn is_marked(word: u32) -> bool
     word / 32768 % 2 == 1
 }
 
-/// The word is one of a first part: bit 15 is 1 exactly for a Sync, and no second part follows a Sync.
+/// The word is one of a first part: bit 15 is 1 exactly for a Sync, and no second part follows a
+/// Sync.
 pub fn is_message_word(word: u32) -> bool
     ensures { result ≡ is_message_word word }
 {

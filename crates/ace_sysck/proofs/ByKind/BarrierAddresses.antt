@@ -1,33 +1,11 @@
 -- What the AR or AW that issues half of a barrier asks of the system, and what it moves: the barriers, and at an AR the results.
 use Rattle.std.proofs.Common.{◌≡◌, ◌∙◌, ◌<◌, ◌-◌, ◌^◌, Bool, true, false, ◌&&◌, ◌∷◌, length, get_or, slice_set, Some, None, refl, ap}
-use Rattle.ace_event.specs.declared.event.Channel.TheVariants.{Read, Write}
-use Rattle.ace_event.specs.declared.event.Event.TheVariants.{Ar, Aw}
-use Rattle.ace_model.specs.Accepted.{IsAccepted, least_broken, least_of}
-use Rattle.ace_model.specs.AddressRules.{begins_barrier, begins_well}
-use Rattle.ace_model.specs.Barriers.{is_barrier_half}
-use Rattle.ace_model.specs.Kinds.{is_dvm_complete, is_dvm_message}
-use Rattle.ace_model.specs.Messages.{is_dvm_completion, is_message_part}
-use Rattle.ace_model.specs.OrderRules.{owes_completion}
-use Rattle.ace_model.specs.Shares.{system_rules}
-use Rattle.ace_model.specs.Trace.{implies}
-use Rattle.ace_model.specs.Transactions.{issued}
-use Rattle.ace_model.specs.declared.transactions.Transaction.{Transaction}
-use Rattle.ace_model.proofs.Terms.{Event, Header, Trace}
-use Rattle.ace_portck.specs.BarrierAddresses.{IssuesHalf}
-use Rattle.ace_portck.specs.Targets.{Recording, after, target_of}
+use Rattle.ace_sysck.proofs.Terms.{Read, Write, Ar, Aw, IsAccepted, least_broken, least_of, begins_barrier, begins_well, is_barrier_half, is_dvm_complete, is_dvm_message, is_dvm_completion, is_message_part, owes_completion, system_rules, implies, issued, Transaction, Event, Header, Trace, IssuesHalf, Recording, after, target_of, Idle, Barriers, Results, SysCheck, joined, begun_in, is_issue, ResultsStand, slot_of, Stands}
 use Rattle.ace_portck.proofs.BarrierAddresses.{each-half}
-use Rattle.ace_sysck.specs.declared.barriers.Barrier.TheVariants.{Idle}
-use Rattle.ace_sysck.specs.declared.barriers.Barriers.{Barriers}
-use Rattle.ace_sysck.specs.declared.results.Results.{Results}
-use Rattle.ace_sysck.specs.declared.system.SysCheck.{SysCheck}
-use Rattle.ace_sysck.specs.Barriers.{joined}
-use Rattle.ace_sysck.specs.Events.{begun_in, is_issue}
-use Rattle.ace_sysck.specs.Results.{ResultsStand, slot_of}
-use Rattle.ace_sysck.specs.Stands.{Stands}
 use Rattle.ace_sysck.proofs.BarrierSteps.{barriers_begun}
 use Rattle.ace_sysck.proofs.ResultSteps.{results_ar}
 use Rattle.ace_sysck.proofs.ByKind.ReadAddresses.{begin-stands, first-rule, idle, issue-rules, least_of_one}
-use Rattle.ace_sysck.proofs.ByKind.Responses.{half-other}
+use Rattle.ace_sysck.proofs.ByKind.Responses.{half_other}
 use Rattle.ace_sysck.proofs.Steps.{port_within}
 use Rattle.ace_sysck.proofs.Unmoved.{results_still}
 
@@ -53,36 +31,39 @@ half-begins h past =
     (λ p i addr snoop dom bar kind. record { issue = refl; begun = refl; part = refl; completion = refl })
 
 -- K9 of the half is all that is asked of it
-pub half-rule : (h : Header) (past : Trace) (e : Event) (x : Transaction) → issued (length past) e ≡ Some x → is_barrier_half x ≡ true
+pub half_rule : (h : Header) (past : Trace) (e : Event) (x : Transaction) → issued (length past) e ≡ Some x → is_barrier_half x ≡ true
     → least_of system_rules h past e ≡ least_of_one (begins_barrier past x)
-half-rule h past e x new half =
-    let part : is_message_part x ≡ false = half-other x is_dvm_message refl half in
-    let completion : is_dvm_completion x ≡ false = half-other x is_dvm_complete refl half in
+half_rule h past e x new half =
+    let part : is_message_part x ≡ false = half_other x is_dvm_message refl half in
+    let completion : is_dvm_completion x ≡ false = half_other x is_dvm_complete refl half in
     issue-rules h past e x new ∙ first-rule (begins_well past x) (owes_completion past x) (idle (is_dvm_completion x) _ completion)
     ∙ ap least_of_one (only-first (is_barrier_half x) (is_message_part x) (is_dvm_completion x) _ _ _ half part completion)
 
 -- the results after it: a half on the read channel is the last read of its name
-pub results-read : (r : Recording) (s n : Results) (e : Event) (x : Transaction) → IssuesHalf r.past e x → IsAccepted r.header (e ∷ r.past) → x.chan ≡ Read → x.id < 256 → ResultsStand r s
+pub results_read : (r : Recording) (s n : Results) (e : Event) (x : Transaction) → IssuesHalf r.past e x → IsAccepted r.header (e ∷ r.past) → x.chan ≡ Read → x.id < 256 → ResultsStand r s
     → n.passed.items ≡ slice_set s.passed.items (slot_of x.port x.id) None → ResultsStand (after r e) n
-results-read r s n e x is =
+results_read r s n e x is =
     each-half (λ e x. IsAccepted r.header (e ∷ r.past) → x.chan ≡ Read → x.id < 256 → ResultsStand r s
     → n.passed.items ≡ slice_set s.passed.items (slot_of x.port x.id) None → ResultsStand (after r e) n) r.past
     (λ p i addr snoop dom bar lock kind unlocked accepted chan low st items.
     results_ar r s n p i addr snoop dom bar lock st (port_within r.header r.past (Ar p i addr snoop dom bar lock) p accepted refl) low items)
     (λ p i addr snoop dom bar kind accepted chan low st items. cc) e x is
 
-pub results-write : (r : Recording) (s : Results) (e : Event) (x : Transaction) → IssuesHalf r.past e x → x.chan ≡ Write → ResultsStand r s → ResultsStand (after r e) s
-results-write r s e x is =
+pub results_write : (r : Recording) (s : Results) (e : Event) (x : Transaction) → IssuesHalf r.past e x → x.chan ≡ Write → ResultsStand r s → ResultsStand (after r e) s
+results_write r s e x is =
     each-half (λ e x. x.chan ≡ Write → ResultsStand r s → ResultsStand (after r e) s) r.past
     (λ p i addr snoop dom bar lock kind unlocked chan st. cc)
     (λ p i addr snoop dom bar kind chan st. results_still r s (Aw p i addr snoop dom bar) refl st) e x is
 
 -- what is kept stands after it
-pub half-stands : (s : SysCheck) (b : Barriers) (n : Results) (r : Recording) (e : Event) (x : Transaction) → Stands s r → IssuesHalf r.past e x → x.id < 256
+pub half_stands : (s : SysCheck) (b : Barriers) (n : Results) (r : Recording) (e : Event) (x : Transaction) → Stands s r → IssuesHalf r.past e x → x.id < 256
     → least_broken r.header r.past e ≡ None → length r.past < 2 ^ 64 - 1
     → b.ports.items ≡ slice_set s.barriers.ports.items x.port (joined (get_or s.barriers.ports.items x.port Idle) x) → ResultsStand (after r e) n
     → Stands (record s { barriers = b; results = n }) (after r e)
-half-stands s b n r e x st is low fine few items results =
+half_stands s b n r e x st is low fine few items results =
     let k = half-begins r.header r.past e x is in
     begin-stands s b n r e x st k.issue k.begun k.part k.completion low fine few
     (barriers_begun r s.barriers b e (target_of r.header r.past e) x (st.accepted, fine) refl k.begun is.half st.barriers items) results
+
+-- what a half leaves
+pub ruleset half_leaves = (half_stands, results_read, results_write)

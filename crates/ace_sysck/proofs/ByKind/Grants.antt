@@ -1,67 +1,34 @@
 -- The G of an outstanding transaction: what it leaves as it is.
-use Rattle.std.proofs.Common.{◌≡◌, ◌<◌, ◌-◌, ◌^◌, ℕ, true, false, not, ◌&&◌, length, Some, None, option_map, refl, ap, ◌∙◌}
+use Rattle.std.proofs.Common.{◌≡◌, ◌<◌, ◌-◌, ◌^◌, ℕ, true, false, not, ◌&&◌, length, Some, None, option_map, inl, inr, refl, ap, ◌∙◌}
 use Rattle.std.proofs.lemmas.Bool.{and_from, and_parts, eq-eqb}
-use Rattle.ace_model.specs.Accepted.{least_broken, least_of}
-use Rattle.ace_model.specs.Shares.{system_rules}
-use Rattle.ace_model.specs.Grants.{given}
-use Rattle.ace_model.specs.Lines.{is_known}
-use Rattle.ace_model.specs.Transactions.{is_line}
-use Rattle.ace_model.specs.declared.transactions.Transaction.{Transaction}
-use Rattle.ace_model.proofs.Terms.{Channel, Event, G, Header, Trace, has_grant, is_exclusive_store, is_some_and, may_be_granted, outstanding, takes_grant}
+use Rattle.ace_sysck.proofs.Terms.{least_broken, given, is_known, is_line, Transaction, Channel, G, has_grant, is_exclusive_store, is_some_and, may_be_granted, outstanding, takes_grant, Target, Recording, after, progress_of, target_of, SysCheck, Registrations, Results, IsNewLock, RegistrationsStand, locked_in, locked_of, was_locked, ResultsStand, Stands, IsStep}
 use Rattle.ace_model.proofs.GrantLooks.Had.{takes-line}
 use Rattle.ace_model.proofs.Lines.Known.{known-issued}
 use Rattle.ace_model.proofs.Rules.Keeps.{accepted_keeps}
 use Rattle.ace_model.proofs.Trace.Growth.{named-issued}
 use Rattle.ace_model.proofs.Trace.Issued.{outstanding-named}
-use Rattle.ace_portck.specs.Target.{Target}
-use Rattle.ace_portck.specs.Targets.{Recording, after, progress_of, target_of}
-use Rattle.ace_sysck.specs.declared.system.SysCheck.{SysCheck}
-use Rattle.ace_sysck.specs.declared.registrations.Registrations.{Registrations}
-use Rattle.ace_sysck.specs.declared.results.Results.{Results}
-use Rattle.ace_sysck.specs.Registrations.{IsNewLock, RegistrationsStand, locked_in, locked_of, was_locked}
-use Rattle.ace_sysck.specs.Results.{ResultsStand}
-use Rattle.ace_sysck.specs.Stands.{Stands}
-use Rattle.ace_sysck.specs.Steps.{IsStep}
 use Rattle.ace_sysck.proofs.RegistrationSteps.{registrations_stay}
 use Rattle.ace_sysck.proofs.ResultSteps.{results_other_grant}
 use Rattle.ace_sysck.proofs.Steps.{Grants, grants-at}
-use Rattle.ace_sysck.proofs.Unmoved.{barriers_still, monitors_still, messages_still, inboxes_still, syncs_still}
+use Rattle.ace_sysck.proofs.Unmoved.{system_follows}
 
 -- a G that breaks no rule is a step of the recording
-pub grant-step : (s : SysCheck) (r : Recording) (p : ℕ) (c : Channel) (i : ℕ) → Stands s r → least_broken r.header r.past (G p c i) ≡ None → length r.past < 2 ^ 64 - 1
+pub grant_step : (s : SysCheck) (r : Recording) (p : ℕ) (c : Channel) (i : ℕ) → Stands s r → least_broken r.header r.past (G p c i) ≡ None → length r.past < 2 ^ 64 - 1
     → IsStep r (G p c i) (target_of r.header r.past (G p c i))
-grant-step s r p c i stands fine few = record { header = stands.ports; accepted = (stands.accepted, fine); target = refl; few = few }
+grant_step s r p c i stands fine few = record { header = stands.ports; accepted = (stands.accepted, fine); target = refl; few = few }
 
 -- what is kept stands after it, with results and registrations that do
 pub after_grant : (s : SysCheck) (r : Recording) (p : ℕ) (c : Channel) (i : ℕ) (results : Results) (registrations : Registrations) → Stands s r
     → least_broken r.header r.past (G p c i) ≡ None → length r.past < 2 ^ 64 - 1 → ResultsStand (after r (G p c i)) results → RegistrationsStand (after r (G p c i)) registrations
     → Stands (record s { results = results; registrations = registrations }) (after r (G p c i))
-after_grant s r p c i results registrations stands fine few result registered = record {
-  header = stands.header;
-  ports = stands.ports;
-  accepted = step.accepted;
-  barriers = barriers_still r s.barriers e t step refl stands.barriers;
-  monitors = monitors_still r s.monitors e refl stands.monitors;
-  results = result;
-  registrations = registered;
-  messages = messages_still r s.messages e t step refl stands.messages;
-  inboxes = inboxes_still r s.inboxes e t step refl stands.inboxes;
-  syncs = syncs_still r s.syncs e t step refl stands.syncs;
-}
-  where
-    e : Event
-    e = G p c i
-
-    t : Target
-    t = target_of r.header r.past e
-
-    step : IsStep r e t
-    step = grant-step s r p c i stands fine few
+after_grant s r p c i results registrations stands fine few result registered =
+    system_follows s (record s { results = results; registrations = registrations }) r (G p c i) stands fine few refl (inl (refl, refl)) (inl (refl, refl)) (inr result)
+    (inr registered) (inl (refl, refl)) (inl (refl, refl)) (inl (refl, refl))
 
 -- a G of a transaction with lock 0 moves nothing
-pub still-at_grant : (s : SysCheck) (r : Recording) (p : ℕ) (c : Channel) (i : ℕ) (x : Transaction) → Stands s r → outstanding r.header r.past p c i ≡ Some x → x.lock ≡ false
+pub still_at_grant : (s : SysCheck) (r : Recording) (p : ℕ) (c : Channel) (i : ℕ) (x : Transaction) → Stands s r → outstanding r.header r.past p c i ≡ Some x → x.lock ≡ false
     → least_broken r.header r.past (G p c i) ≡ None → length r.past < 2 ^ 64 - 1 → Stands s (after r (G p c i))
-still-at_grant s r p c i x stands out unlocked fine few =
+still_at_grant s r p c i x stands out unlocked fine few =
     after_grant s r p c i s.results s.registrations stands fine few
     (results_other_grant r s.results (G p c i) x refl (outstanding-named r.header r.past p c i x out) plain stands.results)
     (registrations_stay r s.registrations (G p c i) t (stands.accepted, fine) refl none stands.registrations)
@@ -98,13 +65,13 @@ module _ (s : SysCheck) (r : Recording) (p : ℕ) (c : Channel) (i : ℕ) (x : T
   first-lock lock none = (x.addr, rw (granted, lock, on-line, eq-eqb x.addr x.addr refl) refl, none)
 
   -- a transaction that is granted its line, with lock 1
-  pub locked-one : x.lock ≡ true → locked_in (G p c i) (target_of r.header r.past (G p c i)) ≡ Some x
-  locked-one lock =
+  pub locked_one : x.lock ≡ true → locked_in (G p c i) (target_of r.header r.past (G p c i)) ≡ Some x
+  locked_one lock =
       let line = on-line in
       ap (λ o. locked_of (option_map (progress_of r.header r.past) o)) out ∙ rw (lock, line) refl
 
   -- what it grants
-  pub grants-one : length r.past < 2 ^ 64 - 1 → Grants r (G p c i) p i x
-  grants-one few =
-      grants-at r p c i (G p c i) (target_of r.header r.past (G p c i)) (progress_of r.header r.past x) (grant-step s r p c i stands fine few) refl
+  pub grants_one : length r.past < 2 ^ 64 - 1 → Grants r (G p c i) p i x
+  grants_one few =
+      grants-at r p c i (G p c i) (target_of r.header r.past (G p c i)) (progress_of r.header r.past x) (grant_step s r p c i stands fine few) refl
       (ap (option_map (progress_of r.header r.past)) out)

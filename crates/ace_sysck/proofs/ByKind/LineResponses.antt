@@ -1,30 +1,11 @@
 -- An answer to a transaction that is neither half of a barrier nor part of a DVM message leaves what is kept of the system as it is.
-use Rattle.std.proofs.Common.{◌≡◌, ◌<◌, ◌-◌, ◌^◌, ℕ, Bool, true, false, length, get_or, Some, None, is_none, refl, sym, ap, ◌∙◌}
+use Rattle.std.proofs.Common.{◌≡◌, ◌<◌, ◌-◌, ◌^◌, ℕ, true, false, length, get_or, Some, None, is_none, refl, sym, ap, ◌∙◌}
 use Rattle.std.proofs.lemmas.Bool.{and_right, ne_eqb}
-use Rattle.ace_codes.specs.declared.kind.ArKind.{ArKind}
-use Rattle.ace_codes.specs.declared.kind.AwKind.{AwKind}
-use Rattle.ace_event.specs.declared.event.Channel.TheVariants.{Read, Write}
-use Rattle.ace_model.specs.declared.transactions.Transaction.{Transaction}
-use Rattle.ace_model.specs.Accepted.{least_broken, least_of}
-use Rattle.ace_model.specs.Shares.{system_rules}
-use Rattle.ace_model.proofs.Terms.{Event, R, B, Header, Trace, is_barrier_half, is_barrier_of, is_completion_event, is_message_part, last_sync, option_filter, outstanding, part_in, sync_in}
+use Rattle.ace_sysck.proofs.Terms.{AwKind, Write, Transaction, least_broken, least_of, system_rules, Event, R, B, Header, Trace, is_barrier_half, is_barrier_of, is_completion_event, is_message_part, last_sync, option_filter, outstanding, part_in, sync_in, Recording, after, line_write, Idle, Barriers, Messages, SysCheck, BarriersStand, is_response, MessagesStand, silent, Stands}
 use Rattle.ace_model.proofs.Dvm.Syncs.{last_sync-is, sync-at}
 use Rattle.ace_model.proofs.General.Options.{Some-injective}
 use Rattle.ace_model.proofs.Trace.Issued.{issued_at}
-use Rattle.ace_portck.specs.Reads.{unfailing_read}
-use Rattle.ace_portck.specs.Targets.{Recording, after, target_of}
-use Rattle.ace_portck.specs.LineWrites.{line_write}
 use Rattle.ace_portck.proofs.LineWrites.{line_write-is, line_write-no_half, line_write-no_message}
-use Rattle.ace_portck.proofs.LineReads.{unfailing_read-is, unfailing_read-no_half, unfailing_read-no_message}
-use Rattle.ace_sysck.specs.declared.barriers.Barrier.TheVariants.{Idle}
-use Rattle.ace_sysck.specs.declared.barriers.Barriers.{Barriers}
-use Rattle.ace_sysck.specs.declared.messages.Messages.{Messages}
-use Rattle.ace_sysck.specs.declared.system.SysCheck.{SysCheck}
-use Rattle.ace_sysck.specs.Barriers.{BarriersStand}
-use Rattle.ace_sysck.specs.Events.{is_response}
-use Rattle.ace_sysck.specs.Messages.{MessagesStand, silent}
-use Rattle.ace_sysck.specs.Stands.{Stands}
-use Rattle.ace_sysck.specs.Steps.{IsStep}
 use Rattle.ace_sysck.proofs.BarrierSteps.{answers-unissued, barrier_stays, hits, same-half}
 use Rattle.ace_sysck.proofs.EventLaws.{responding, responds-at}
 use Rattle.ace_sysck.proofs.MessageSteps.{answers-no_ac, stays}
@@ -77,10 +58,8 @@ answers-response h past e x answers = cc
 pub system_unanswered : (s : SysCheck) (r : Recording) (e : Event) (x : Transaction) → Stands s r → least_broken r.header r.past e ≡ None → length r.past < 2 ^ 64 - 1
     → responding r.header r.past e ≡ Some x → is_barrier_half x ≡ false → is_message_part x ≡ false → Stands s (after r e)
 system_unanswered s r e x k kept few answers no_half no_message =
-    let is = answers-response r.header r.past e x answers in
-    let t = target_of r.header r.past e in
-    let step : IsStep r e t = record { header = k.ports; accepted = (k.accepted, kept); target = refl; few = few } in
-    system_responded s s.barriers s.messages r e t k step is (barriers_unanswered r s.barriers e x answers no_half k.barriers) (messages_unanswered r s.messages e x answers no_message k.messages)
+    system_responded s s.barriers s.messages r e k kept few (answers-response r.header r.past e x answers) (barriers_unanswered r s.barriers e x answers no_half k.barriers)
+    (messages_unanswered r s.messages e x answers no_message k.messages)
 
 -- a B of a line write leaves all of it
 pub system_unmoved_by_response : (s : SysCheck) (r : Recording) (p id resp : ℕ) (x : Transaction) (k : AwKind) → Stands s r → outstanding r.header r.past p Write id ≡ Some x

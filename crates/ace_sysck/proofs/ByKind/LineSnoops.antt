@@ -1,16 +1,10 @@
 -- A line snoop leaves what is kept of the system as it is.
 use Rattle.std.proofs.Common.{◌≡◌, ℕ, Bool, true, false, ◌∷◌, length, Option, Some, None, ◌<◌, ◌-◌, ◌^◌, refl}
-use Rattle.ace_codes.specs.declared.kind.SnoopKind.{SnoopKind}
+use Rattle.ace_sysck.proofs.Terms.{SnoopKind, is_line_snoop, Ac, IsAccepted, ac_kind_of, is_complete_snoop, is_message_snoop, is_some_and, snoops_a_line, Recording, after, SysCheck, Stands}
 use Rattle.ace_codes.specs.declared.kind.SnoopKind.TheVariants as snoop
-use Rattle.ace_model.specs.Kinds.{is_line_snoop}
-use Rattle.ace_model.proofs.Terms.{Ac, IsAccepted, ac_kind_of, is_complete_snoop, is_message_snoop, is_some_and, snoops_a_line}
-use Rattle.ace_portck.specs.Targets.{Recording, after, target_of}
-use Rattle.ace_sysck.specs.declared.system.SysCheck.{SysCheck}
-use Rattle.ace_sysck.specs.Stands.{Stands}
-use Rattle.ace_sysck.specs.Steps.{IsStep}
 use Rattle.ace_sysck.proofs.Forwarding.InboxHears.{inboxes_other_ac}
 use Rattle.ace_sysck.proofs.MessageSteps.{messages_untold}
-use Rattle.ace_sysck.proofs.Unmoved.{barriers_still, monitors_still, registrations_still, results_still, syncs_still}
+use Rattle.ace_sysck.proofs.Unmoved.{system_snooped}
 
 -- a line snoop is none of DVM
 no_message : (k : SnoopKind) → is_line_snoop k ≡ true → is_message_snoop k ≡ false
@@ -32,18 +26,6 @@ apart test never code = by (ac_kind_of code)
 pub system_still : (r : Recording) (s : SysCheck) (p addr code : ℕ) → Stands s r → IsAccepted r.header (Ac p addr code ∷ r.past) → snoops_a_line code ≡ true
     → length r.past < 2 ^ 64 - 1 → Stands s (after r (Ac p addr code))
 system_still r s p addr code stands accepted line few =
-    let e = Ac p addr code in
-    let t = target_of r.header r.past e in
-    let step : IsStep r e t = record { header = stands.ports; accepted = accepted; target = refl; few = few } in
-    record {
-      header = stands.header;
-      ports = stands.ports;
-      accepted = accepted;
-      barriers = barriers_still r s.barriers e t step refl stands.barriers;
-      monitors = monitors_still r s.monitors e refl stands.monitors;
-      results = results_still r s.results e refl stands.results;
-      registrations = registrations_still r s.registrations e t step refl stands.registrations;
-      messages = messages_untold r s.messages p addr code (apart is_complete_snoop no_complete code line) stands.messages;
-      inboxes = inboxes_other_ac r s.inboxes p addr code accepted (apart is_message_snoop no_message code line) stands.inboxes;
-      syncs = syncs_still r s.syncs e t step refl stands.syncs;
-    }
+    system_snooped s s.messages s.inboxes r p addr code stands accepted.1 few
+    (messages_untold r s.messages p addr code (apart is_complete_snoop no_complete code line) stands.messages)
+    (inboxes_other_ac r s.inboxes p addr code accepted (apart is_message_snoop no_message code line) stands.inboxes)

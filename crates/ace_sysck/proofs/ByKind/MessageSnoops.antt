@@ -1,21 +1,9 @@
--- ACs: what the rules ask of one of a kind, and what an AC of DVM leaves.
-use Rattle.std.proofs.Common.{◌≡◌, ℕ, Bool, true, false, not, ◌||◌, length, Some, None, slice_get, ◌<◌, ◌-◌, ◌^◌, refl, sym, ap, subst, ◌∙◌}
-use Rattle.ace_codes.specs.declared.kind.SnoopKind.{SnoopKind}
+-- ACs: what the rules ask of one of a kind.
+use Rattle.std.proofs.Common.{◌≡◌, ℕ, Bool, true, false, not, ◌||◌, Some, slice_get, refl, ap, ◌∙◌}
+use Rattle.ace_sysck.proofs.Terms.{SnoopKind, k1, completes_next, k39, Ac, ac_kind_of, is_complete_snoop, is_message_snoop, is_none_or, is_some_and, k36, Recording, target_of, SysCheck, forwards_in, next_in, completes_now, Stands, IsAsked}
 use Rattle.ace_codes.specs.declared.kind.SnoopKind.TheVariants as snoop
-use Rattle.ace_model.specs.Accepted.{least_broken}
-use Rattle.ace_model.specs.AddressRules.{k1}
-use Rattle.ace_model.specs.OrderRules.{completes_next, k39}
-use Rattle.ace_model.proofs.Terms.{Ac, ac_kind_of, is_complete_snoop, is_message_snoop, is_none_or, is_some_and, k36}
-use Rattle.ace_portck.specs.Targets.{Recording, after, target_of}
-use Rattle.ace_sysck.specs.declared.system.SysCheck.{SysCheck}
-use Rattle.ace_sysck.specs.Inboxes.{InboxesStand, forwards_in, next_in}
-use Rattle.ace_sysck.specs.Messages.{MessagesStand}
-use Rattle.ace_sysck.specs.Rules.{completes_now}
-use Rattle.ace_sysck.specs.Stands.{Stands}
-use Rattle.ace_sysck.specs.Steps.{IsAsked, IsStep}
 use Rattle.ace_sysck.proofs.Forwarding.InboxRules.{k36-is}
 use Rattle.ace_sysck.proofs.RuleLaws.{k39-is}
-use Rattle.ace_sysck.proofs.Unmoved.{barriers_still, monitors_still, registrations_still, results_still, syncs_still}
 
 -- the kinds of line snoops
 pub other-kind : (k : SnoopKind) → (k ≡ snoop.DvmMessage → ⊥) → (k ≡ snoop.DvmComplete → ⊥) → (is_message_snoop k ≡ false) × (is_complete_snoop k ≡ false)
@@ -46,24 +34,3 @@ module _ (r : Recording) (p addr code : ℕ) (k : SnoopKind) (kind : ac_kind_of 
     forwards first =
         let asked : IsAsked r (Ac p addr code) (target_of r.header r.past (Ac p addr code)) = record { header = stands.ports; accepted = stands.accepted; first = first; target = refl } in
         k36-is r s.inboxes p addr code (target_of r.header r.past (Ac p addr code)) k (record { asked = asked; stands = stands.inboxes }) kind
-
-    -- it moves messages and inboxes at most
-    pub snoop-stands : (n : SysCheck) → least_broken r.header r.past (Ac p addr code) ≡ None → length r.past < 2 ^ 64 - 1
-        → n ≡ record s { messages = n.messages; inboxes = n.inboxes } → MessagesStand (after r (Ac p addr code)) n.messages
-        → InboxesStand (after r (Ac p addr code)) n.inboxes → Stands n (after r (Ac p addr code))
-    snoop-stands n fine few is messages inboxes =
-        let e = Ac p addr code in
-        let t = target_of r.header r.past e in
-        let step : IsStep r e t = record { header = stands.ports; accepted = (stands.accepted, fine); target = refl; few = few } in
-        subst (λ (v : SysCheck). Stands v (after r e)) (sym is) (record {
-          header = stands.header;
-          ports = stands.ports;
-          accepted = step.accepted;
-          barriers = barriers_still r s.barriers e t step refl stands.barriers;
-          monitors = monitors_still r s.monitors e refl stands.monitors;
-          results = results_still r s.results e refl stands.results;
-          registrations = registrations_still r s.registrations e t step refl stands.registrations;
-          messages = messages;
-          inboxes = inboxes;
-          syncs = syncs_still r s.syncs e t step refl stands.syncs;
-        })

@@ -1,41 +1,18 @@
 -- The AR of a line read, whatever its lock is: it breaks no rule of the share, and moves the results alone. What moves them at most.
 use Rattle.std.proofs.Common.{◌≡◌, ◌<◌, ◌-◌, ◌^◌, ℕ, Bool, true, false, ◌&&◌, if◌then◌else◌, length, Option, Some, None, slice_set, refl, ap}
-use Rattle.ace_codes.specs.declared.kind.ArKind.{ArKind}
+use Rattle.ace_sysck.proofs.Terms.{ArKind, ar_kind_of, Ar, Aw, least_broken, least_of, begins_well, k9, is_barrier_half, is_dvm_complete, is_line_read, is_dvm_completion, is_message_part, k38, owes_completion, system_rules, implies, issued, Transaction, Event, Header, Trace, Recording, after, target_of, Barriers, Results, SysCheck, BarriersStand, begun_in, is_issue, ResultsStand, slot_of, Stands, IsStep}
 use Rattle.ace_codes.specs.declared.kind.ArKind.TheVariants as read
-use Rattle.ace_codes.specs.Reads.{ar_kind_of}
-use Rattle.ace_event.specs.declared.event.Event.TheVariants.{Ar, Aw}
-use Rattle.ace_model.specs.Accepted.{least_broken, least_of}
-use Rattle.ace_model.specs.AddressRules.{begins_well, k9}
-use Rattle.ace_model.specs.Barriers.{is_barrier_half}
-use Rattle.ace_model.specs.Kinds.{is_dvm_complete, is_line_read}
-use Rattle.ace_model.specs.Messages.{is_dvm_completion, is_message_part}
-use Rattle.ace_model.specs.OrderRules.{k38, owes_completion}
-use Rattle.ace_model.specs.Shares.{system_rules}
-use Rattle.ace_model.specs.Trace.{implies}
-use Rattle.ace_model.specs.Transactions.{issued}
-use Rattle.ace_model.specs.declared.transactions.Transaction.{Transaction}
 use Rattle.ace_model.proofs.General.Options.{Some-injective}
-use Rattle.ace_model.proofs.Terms.{Event, Header, Trace}
 use Rattle.ace_model.proofs.Trace.Outstanding.{write_issued}
-use Rattle.ace_portck.specs.Targets.{Recording, after, target_of}
-use Rattle.ace_portck.specs.Target.{Target}
 use Rattle.ace_portck.proofs.LineReads.{IsUnfailingRead, unfailing_read-no_half, unfailing_read-no_message}
 use Rattle.ace_portck.proofs.ReadAddresses.{read_of, unlocked-unfailing}
-use Rattle.ace_sysck.specs.declared.barriers.Barriers.{Barriers}
-use Rattle.ace_sysck.specs.declared.results.Results.{Results}
-use Rattle.ace_sysck.specs.declared.system.SysCheck.{SysCheck}
-use Rattle.ace_sysck.specs.Barriers.{BarriersStand}
-use Rattle.ace_sysck.specs.Events.{begun_in, is_issue}
-use Rattle.ace_sysck.specs.Results.{ResultsStand, slot_of}
-use Rattle.ace_sysck.specs.Stands.{Stands}
-use Rattle.ace_sysck.specs.Steps.{IsStep}
 use Rattle.ace_sysck.proofs.BarrierSteps.{barriers_other_issue}
 use Rattle.ace_sysck.proofs.Forwarding.InboxHears.{inboxes_other_issue}
 use Rattle.ace_sysck.proofs.MessageSteps.{messages_other_issue}
 use Rattle.ace_sysck.proofs.ResultSteps.{results_ar}
 use Rattle.ace_sysck.proofs.Steps.{port_within}
 use Rattle.ace_sysck.proofs.SyncSteps.{syncs_other_issue}
-use Rattle.ace_sysck.proofs.Unmoved.{moves_monitors, moves_registrations, monitors_still, registrations_still, by_issue}
+use Rattle.ace_sysck.proofs.Unmoved.{system_issued}
 
 line-no_completion : (k : ArKind) → is_line_read k ≡ true → is_dvm_complete k ≡ false
 line-no_completion read.DvmComplete line = cc
@@ -115,24 +92,11 @@ pub begin-stands : (s : SysCheck) (b : Barriers) (n : Results) (r : Recording) (
     → begun_in e (target_of r.header r.past e) ≡ Some x → is_message_part x ≡ false → is_dvm_completion x ≡ false → x.id < 256
     → least_broken r.header r.past e ≡ None → length r.past < 2 ^ 64 - 1 → BarriersStand (after r e) b → ResultsStand (after r e) n
     → Stands (record s { barriers = b; results = n }) (after r e)
-begin-stands s b n r e x st is begins part completion low fine few barriers results = record {
-  header = st.header;
-  ports = st.ports;
-  accepted = step.accepted;
-  barriers = barriers;
-  monitors = monitors_still r s.monitors e (by_issue moves_monitors (λ p i addr snoop dom bar lock. refl) (λ p i addr snoop dom bar. refl) e is) st.monitors;
-  results = results;
-  registrations = registrations_still r s.registrations e t step (by_issue moves_registrations (λ p i addr snoop dom bar lock. refl) (λ p i addr snoop dom bar. refl) e is) st.registrations;
-  messages = messages_other_issue r s.messages e t x refl begins part st.messages;
-  inboxes = inboxes_other_issue r s.inboxes e t x refl begins low part st.inboxes;
-  syncs = syncs_other_issue r s.syncs e t x step begins part completion st.syncs;
-}
-  where
-    t : Target
-    t = target_of r.header r.past e
-
-    step : IsStep r e t
-    step = record { header = st.ports; accepted = (st.accepted, fine); target = refl; few = few }
+begin-stands s b n r e x st is begins part completion low fine few barriers results =
+    let t = target_of r.header r.past e in
+    let step : IsStep r e t = record { header = st.ports; accepted = (st.accepted, fine); target = refl; few = few } in
+    system_issued s b n s.messages s.inboxes s.syncs r e st fine few is barriers results (messages_other_issue r s.messages e t x refl begins part st.messages)
+    (inboxes_other_issue r s.inboxes e t x refl begins low part st.inboxes) (syncs_other_issue r s.syncs e t x step begins part completion st.syncs)
 
 -- one that is no half of a barrier either moves the results at most
 pub issue-stands : (s : SysCheck) (n : Results) (r : Recording) (e : Event) (x : Transaction) → Stands s r → is_issue e ≡ true → begun_in e (target_of r.header r.past e) ≡ Some x
@@ -143,10 +107,10 @@ issue-stands s n r e x st is begins half part completion low fine few results =
     (barriers_other_issue r s.barriers e (target_of r.header r.past e) x refl begins half st.barriers) results
 
 -- a line read moves the results alone
-pub begun-stands : (s : SysCheck) (n : Results) (r : Recording) (p i addr snoop dom bar : ℕ) (lock : Bool) (k : ArKind) → Stands s r
+pub begun_stands : (s : SysCheck) (n : Results) (r : Recording) (p i addr snoop dom bar : ℕ) (lock : Bool) (k : ArKind) → Stands s r
     → ar_kind_of snoop dom bar ≡ Some k → is_line_read k ≡ true → least_broken r.header r.past (Ar p i addr snoop dom bar lock) ≡ None → length r.past < 2 ^ 64 - 1 → i < 256
     → n.passed.items ≡ slice_set s.results.passed.items (slot_of p i) None → Stands (record s { results = n }) (after r (Ar p i addr snoop dom bar lock))
-begun-stands s n r p i addr snoop dom bar lock k st kind line fine few low items =
+begun_stands s n r p i addr snoop dom bar lock k st kind line fine few low items =
     issue-stands s n r (Ar p i addr snoop dom bar lock) (read_of (length r.past) p i addr snoop dom bar lock) st refl refl
     (no_half r.header r.past p i addr snoop dom bar lock k kind line) (no_part r.header r.past p i addr snoop dom bar lock k kind line)
     (no_completion r.header r.past p i addr snoop dom bar lock k kind line) low fine few

@@ -1,37 +1,17 @@
 -- Which rules an R or B may break by the transaction that it answers, and what the completion of a transaction leaves of the system.
-use Rattle.std.proofs.Common.{◌≡◌, ◌∙◌, ◌<◌, ◌-◌, ◌^◌, ℕ, Bool, true, false, length, get_or, slice_set, Option, Some, None, refl, sym, inl, inr}
+use Rattle.std.proofs.Common.{◌≡◌, ◌∷◌, ◌∙◌, ◌<◌, ◌-◌, ◌^◌, Bool, true, false, length, get_or, slice_set, Option, Some, None, refl, sym, inl, inr}
 use Rattle.std.proofs.lemmas.Bool.{cases_Bool}
-use Rattle.ace_codes.specs.Reads.{ar_kind_of}
-use Rattle.ace_codes.specs.declared.kind.ArKind.{ArKind}
+use Rattle.ace_sysck.proofs.Terms.{IsAccepted, ar_kind_of, ArKind, Transaction, least_broken, is_barrier_half, is_dvm_message, is_read_barrier, is_message_part, is_some_and, is_read, read_kind, write_kind, Event, Recording, after, target_of, Idle, Barriers, Messages, SysCheck, completed_in, is_response, part_completed, silent, Stands}
 use Rattle.ace_codes.specs.declared.kind.ArKind.TheVariants as read
-use Rattle.ace_event.specs.declared.event.Channel.TheVariants.{Read, Write}
-use Rattle.ace_model.specs.declared.transactions.Transaction.{Transaction}
-use Rattle.ace_model.specs.Accepted.{least_broken, least_of}
-use Rattle.ace_model.specs.Barriers.{is_barrier_half}
-use Rattle.ace_model.specs.Kinds.{is_dvm_message, is_read_barrier}
-use Rattle.ace_model.specs.Messages.{is_message_part}
-use Rattle.ace_model.specs.Shares.{system_rules}
-use Rattle.ace_model.specs.Trace.{is_some_and}
-use Rattle.ace_model.specs.Transactions.{is_read, read_kind, write_kind}
-use Rattle.ace_model.proofs.Terms.{Event, Header, R, B, Trace, outstanding}
 use Rattle.ace_portck.proofs.LineReads.{on_reads}
-use Rattle.ace_portck.specs.Targets.{Recording, after, target_of}
-use Rattle.ace_sysck.specs.declared.barriers.Barrier.TheVariants.{Idle}
-use Rattle.ace_sysck.specs.declared.barriers.Barriers.{Barriers}
-use Rattle.ace_sysck.specs.declared.messages.Messages.{Messages}
-use Rattle.ace_sysck.specs.declared.system.SysCheck.{SysCheck}
 use Rattle.ace_sysck.specs.Barriers.{answered}
-use Rattle.ace_sysck.specs.Events.{completed_in, is_response}
-use Rattle.ace_sysck.specs.Messages.{part_completed, silent}
-use Rattle.ace_sysck.specs.Stands.{Stands}
-use Rattle.ace_sysck.specs.Steps.{IsStep}
 use Rattle.ace_sysck.proofs.BarrierSteps.{barriers_completed}
 use Rattle.ace_sysck.proofs.MessageSteps.{messages_completed}
 use Rattle.ace_sysck.proofs.Unmoved.{system_responded}
 
 -- half of a barrier is a read of no other kind
-pub half-other : (x : Transaction) (test : ArKind → Bool) → test read.Barrier ≡ false → is_barrier_half x ≡ true → is_some_and (read_kind x) test ≡ false
-half-other x test off half = by (read_kind x) refl
+pub half_other : (x : Transaction) (test : ArKind → Bool) → test read.Barrier ≡ false → is_barrier_half x ≡ true → is_some_and (read_kind x) test ≡ false
+half_other x test off half = by (read_kind x) refl
   where
     by : (o : Option ArKind) → read_kind x ≡ o → is_some_and (read_kind x) test ≡ false
     by None is = rw is refl
@@ -42,10 +22,10 @@ half-other x test off half = by (read_kind x) refl
         let bad : false ≡ true = rw (is, none) at half in cc
 
 -- so part of a message is no half
-pub part-no_half : (x : Transaction) → is_message_part x ≡ true → is_barrier_half x ≡ false
-part-no_half x part =
+pub part_no_half : (x : Transaction) → is_message_part x ≡ true → is_barrier_half x ≡ false
+part_no_half x part =
     elim (cases_Bool (is_barrier_half x)) [
-      | inl half ↦ let bad : false ≡ true = sym (half-other x is_dvm_message refl half) ∙ part in cc
+      | inl half ↦ let bad : false ≡ true = sym (half_other x is_dvm_message refl half) ∙ part in cc
       | inr none ↦ none
     ]
 
@@ -71,6 +51,6 @@ pub transaction_completed : (s : SysCheck) (b : Barriers) (n : Messages) (r : Re
     → Stands (record s { barriers = b; messages = n }) (after r e)
 transaction_completed s b n r e x st is completed fine few barriers messages =
     let t = target_of r.header r.past e in
-    let step : IsStep r e t = record { header = st.ports; accepted = (st.accepted, fine); target = refl; few = few } in
-    system_responded s b n r e t st step is (barriers_completed r s.barriers b e t x step.accepted refl completed st.barriers barriers)
-    (messages_completed r s.messages n e t x step.accepted refl completed st.messages messages)
+    let accepted : IsAccepted r.header (e ∷ r.past) = (st.accepted, fine) in
+    system_responded s b n r e st fine few is (barriers_completed r s.barriers b e t x accepted refl completed st.barriers barriers)
+    (messages_completed r s.messages n e t x accepted refl completed st.messages messages)

@@ -1,22 +1,9 @@
 -- A CR: what it answers, and what it leaves of the system.
-use Rattle.std.proofs.Common.{◌≡◌, ◌<◌, ◌-◌, ◌^◌, ℕ, length, Option, Some, None, get_or, slice_set, refl, sym, ap, subst, ◌∙◌}
-use Rattle.ace_codes.specs.declared.kind.SnoopKind.{SnoopKind}
-use Rattle.ace_codes.specs.declared.state.LineState.{LineState}
-use Rattle.ace_model.specs.declared.snoops.Snoop.{Snoop}
-use Rattle.ace_model.specs.Accepted.{least_broken}
-use Rattle.ace_model.proofs.Terms.{Cr, ac_kind_of, is_message_snoop, is_some_and}
-use Rattle.ace_portck.specs.SnoopAnswers.{IsAnswered}
-use Rattle.ace_portck.specs.Targets.{Recording, after, line_in, line_of_snoop, target_of}
-use Rattle.ace_sysck.specs.declared.monitors.Monitors.{Monitors}
-use Rattle.ace_sysck.specs.declared.system.SysCheck.{SysCheck}
-use Rattle.ace_sysck.specs.Inboxes.{InboxesStand, answers_message}
-use Rattle.ace_sysck.specs.Monitors.{MonitorsStand, kept_after}
-use Rattle.ace_sysck.specs.Stands.{Stands}
-use Rattle.ace_sysck.specs.Steps.{IsStep}
-use Rattle.ace_sysck.specs.Syncs.{SyncsStand}
+use Rattle.std.proofs.Common.{◌≡◌, ◌<◌, ◌-◌, ◌^◌, ℕ, length, Option, Some, None, get_or, slice_set, inl, inr, refl, sym, ap, ◌∙◌}
+use Rattle.ace_sysck.proofs.Terms.{SnoopKind, LineState, Snoop, least_broken, Cr, ac_kind_of, is_message_snoop, is_some_and, IsAnswered, Recording, after, line_in, line_of_snoop, target_of, Inboxes, Monitors, Syncs, SysCheck, InboxesStand, answers_message, MonitorsStand, kept_after, Stands, IsStep, SyncsStand}
 use Rattle.ace_sysck.proofs.MonitorSteps.{left_at, monitors_leave}
 use Rattle.ace_sysck.proofs.Steps.{port_within}
-use Rattle.ace_sysck.proofs.Unmoved.{barriers_still, messages_still, registrations_still, results_still}
+use Rattle.ace_sysck.proofs.Unmoved.{system_follows}
 
 module _ (r : Recording) (p resp : ℕ) (st : LineState) where
   pub answer-step : (s : SysCheck) → Stands s r → least_broken r.header r.past (Cr p resp st) ≡ None → length r.past < 2 ^ 64 - 1
@@ -39,22 +26,9 @@ module _ (r : Recording) (p resp : ℕ) (st : LineState) where
       monitors_leave r s t (Cr p resp st) p line st stands (port_within r.header r.past (Cr p resp st) p step.accepted refl) (rw on left.0) items
 
   -- the rest is as it was, but for the forwarded messages
-  pub system-answer : (s n : SysCheck) → Stands s r → least_broken r.header r.past (Cr p resp st) ≡ None → length r.past < 2 ^ 64 - 1
-      → n ≡ record s { monitors = n.monitors; inboxes = n.inboxes; syncs = n.syncs } → MonitorsStand (after r (Cr p resp st)) n.monitors
-      → InboxesStand (after r (Cr p resp st)) n.inboxes → SyncsStand (after r (Cr p resp st)) n.syncs → Stands n (after r (Cr p resp st))
-  system-answer s n stands fine few is monitors inboxes syncs =
-      let e = Cr p resp st in
-      let t = target_of r.header r.past e in
-      let step = answer-step s stands fine few in
-      subst (λ (v : SysCheck). Stands v (after r e)) (sym is) (record {
-        header = stands.header;
-        ports = stands.ports;
-        accepted = step.accepted;
-        barriers = barriers_still r s.barriers e t step refl stands.barriers;
-        monitors = monitors;
-        results = results_still r s.results e refl stands.results;
-        registrations = registrations_still r s.registrations e t step refl stands.registrations;
-        messages = messages_still r s.messages e t step refl stands.messages;
-        inboxes = inboxes;
-        syncs = syncs;
-      })
+  pub system-answer : (s : SysCheck) (m : Monitors) (i : Inboxes) (y : Syncs) → Stands s r → least_broken r.header r.past (Cr p resp st) ≡ None → length r.past < 2 ^ 64 - 1
+      → MonitorsStand (after r (Cr p resp st)) m → InboxesStand (after r (Cr p resp st)) i → SyncsStand (after r (Cr p resp st)) y
+      → Stands (record s { monitors = m; inboxes = i; syncs = y }) (after r (Cr p resp st))
+  system-answer s m i y stands fine few monitors inboxes syncs =
+      system_follows s (record s { monitors = m; inboxes = i; syncs = y }) r (Cr p resp st) stands fine few refl (inl (refl, refl)) (inr monitors) (inl (refl, refl)) (inl (refl, refl))
+      (inl (refl, refl)) (inr inboxes) (inr syncs)

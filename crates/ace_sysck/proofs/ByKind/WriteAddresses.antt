@@ -1,19 +1,8 @@
 -- The AW of a line write: it breaks no rule of the share, and moves nothing of it.
 use Rattle.std.proofs.Common.{◌≡◌, ◌<◌, ◌-◌, ◌^◌, ℕ, true, length, Some, None, refl}
-use Rattle.ace_codes.specs.declared.kind.AwKind.{AwKind}
-use Rattle.ace_event.specs.declared.event.Event.TheVariants.{Aw}
-use Rattle.ace_model.specs.Accepted.{least_broken, least_of}
-use Rattle.ace_model.specs.AddressRules.{k9}
-use Rattle.ace_model.specs.Barriers.{is_barrier_half}
-use Rattle.ace_model.specs.OrderRules.{k38}
-use Rattle.ace_model.specs.Shares.{system_rules}
-use Rattle.ace_model.proofs.Terms.{Header, Trace}
+use Rattle.ace_sysck.proofs.Terms.{AwKind, Aw, least_broken, least_of, k9, is_barrier_half, k38, system_rules, Header, Trace, line_write_kind, Recording, after, SysCheck, Stands}
 use Rattle.ace_model.proofs.Trace.Outstanding.{write_issued}
-use Rattle.ace_portck.specs.LineWrites.{line_write_kind}
-use Rattle.ace_portck.specs.Targets.{Recording, after}
 use Rattle.ace_portck.proofs.WriteAddresses.{write-no_half}
-use Rattle.ace_sysck.specs.declared.system.SysCheck.{SysCheck}
-use Rattle.ace_sysck.specs.Stands.{Stands}
 use Rattle.ace_sysck.proofs.ByKind.ReadAddresses.{all-three, idle, issue-stands, two-rules}
 use Rattle.ace_sysck.proofs.Unmoved.{results_still}
 

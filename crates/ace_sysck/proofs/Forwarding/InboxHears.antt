@@ -1,15 +1,11 @@
 -- The inboxes, event by event.
 use Rattle.std.proofs.Common.{◌≡◌, ℕ, zero, suc, ◌+◌, ◌-◌, ◌*◌, ◌<◌, ◌≤◌, true, false, nat_eq, if◌then◌else◌, List, [], ◌∷◌, ◌++◌, length, map, take, drop, slice_get, Option, Some, None, is_some, refl, sym, ap, subst, ◌∙◌, arith, inl, inr, length-append, length-drop}
-use Rattle.std.specs.Option.{option_to_list}
-use Rattle.std.specs.VecDeque.{deque_capacity}
+use Rattle.ace_sysck.proofs.Terms.{option_to_list, deque_capacity, Snoop, Transaction, Header, Event, Ar, Aw, Ac, Cr, Trace, is_some_and, is_ace, issued, transactions, IsTransaction, LineState, is_message_part, is_message_snoop, ac_kind_of, parts_in, parts_for, parts_among, forwarded, forwards, next_after, add_forwarded, answered_parts, snoops_of, snoop_at, answers, answered, IsAccepted, Target, Recording, after, target_of, PortMessages, Part, Inbox, Inboxes, begun_in, PortMessagesStand, InboxesStand, InboxStands, Receives, SendsAll, ForwardsTo, AnswersFirst, sent_to, part_of, parts_sent, answers_message}
 use Rattle.std.proofs.lemmas.Bool.{cases_Bool, cases_eq, eq-eqb, ne_eqb}
 use Rattle.std.proofs.lemmas.List.{append-nil, map-append, length-map, drop-append-le, drop-drop, take-append-le, take_more}
 use Rattle.std.proofs.lemmas.List.Concat.{flat_map-append}
 use Rattle.std.proofs.lemmas.List.Elements.{All-drop}
 use Rattle.std.proofs.lemmas.Option.{slice_get_within, get_or_from_slice_get}
-use Rattle.ace_model.specs.declared.snoops.Snoop.{Snoop}
-use Rattle.ace_model.specs.declared.transactions.Transaction.{Transaction}
-use Rattle.ace_model.proofs.Terms.{Header, Event, Ar, Aw, Ac, Cr, Trace, is_some_and, is_ace, issued, transactions, IsTransaction, LineState, is_message_part, is_message_snoop, ac_kind_of, parts_in, parts_for, parts_among, forwarded, forwards, next_after, add_forwarded, answered_parts, snoops_of, snoop_at, answers, answered, IsAccepted}
 use Rattle.ace_model.proofs.Rules.Keeps.{accepted_keeps}
 use Rattle.ace_model.proofs.Dvm.Parts.{IsBelow, parts-placed}
 use Rattle.ace_model.proofs.Dvm.Forwarding.{answered-first}
@@ -17,17 +13,8 @@ use Rattle.ace_model.proofs.Trace.Growth.{IsIssued}
 use Rattle.ace_model.proofs.Outstanding.Issued.{issued-place_in}
 use Rattle.ace_model.proofs.General.Options.{Some-injective, some_is}
 use Rattle.ace_model.proofs.General.Lists.{start-length, slice_get-more}
-use Rattle.ace_portck.specs.Target.{Target}
-use Rattle.ace_portck.specs.Targets.{Recording, after, target_of}
-use Rattle.ace_sysck.specs.declared.messages.PortMessages.{PortMessages}
-use Rattle.ace_sysck.specs.declared.inboxes.Part.{Part}
-use Rattle.ace_sysck.specs.declared.inboxes.Inbox.{Inbox}
-use Rattle.ace_sysck.specs.declared.inboxes.Inboxes.{Inboxes}
-use Rattle.ace_sysck.specs.Events.{begun_in}
-use Rattle.ace_sysck.specs.Messages.{PortMessagesStand}
-use Rattle.ace_sysck.specs.Inboxes.{InboxesStand, InboxStands, Receives, SendsAll, ForwardsTo, AnswersFirst, sent_to, part_of, parts_sent, answers_message}
 use Rattle.ace_sysck.proofs.EventLaws.{begun-is}
-use Rattle.ace_sysck.proofs.PartLaws.{forwards-at, forwards-kind, forwarded-length}
+use Rattle.ace_sysck.proofs.PartLaws.{Forwards, forwards-at, forwards-kind, forwarded-length}
 use Rattle.ace_sysck.proofs.Forwarding.InboxRules.{unanswered, inbox_at}
 use Rattle.ace_sysck.proofs.Forwarding.InboxMoves.{map-old, sent-is, few-unanswered}
 
@@ -173,6 +160,15 @@ module _ (h : Header) (past : Trace) (q resp : ℕ) (st : LineState) (accepted :
   pub snoop_there : (s : Snoop) × (answered past q ≡ Some s)
   snoop_there = some_is (answered past q) (accepted_keeps h past cr accepted).rule_14
 
+  -- what it answers: a part where its snoop is an AC DVM Message
+  pub forwards-part : Forwards past q (answers past q) snoop_there.0
+  forwards-part = forwards-at h past q (answers past q) snoop_there.0 accepted.0 snoop_there.1
+
+  pub is-message : (t : Target) → t ≡ target_of h past cr → is_some forwards-part.part ≡ answers_message t
+  is-message t own =
+      forwards-part.kind ∙ sym (ap (λ o. is_some_and o (λ (v : Snoop). is_some_and (ac_kind_of v.snoop) is_message_snoop)) snoop_there.1)
+      ∙ sym (ap answers_message own)
+
   pub answered-more : (o : Option Transaction) → slice_get (forwarded past q) (answers past q) ≡ Some o → answered_parts (cr ∷ past) q ≡ answered_parts past q ++ option_to_list o
   answered-more o there =
       let low = slice_get_within (forwarded past q) (answers past q) o there in
@@ -192,9 +188,8 @@ module _ (h : Header) (past : Trace) (q resp : ℕ) (st : LineState) (accepted :
   pub inbox_answers : (t : Target) (parts : List Part) (count : ℕ) → t ≡ target_of h past cr → answers_message t ≡ true → InboxStands past q parts count
       → InboxStands (cr ∷ past) q (drop 1 parts) (count - 1)
   inbox_answers t parts count own message s =
-      let k = forwards-at h past q (answers past q) snoop_there.0 accepted.0 snoop_there.1 in
-      let some : is_some k.part ≡ true = k.kind ∙ sym (ap (λ o. is_some_and o (λ (v : Snoop). is_some_and (ac_kind_of v.snoop) is_message_snoop)) snoop_there.1)
-      ∙ sym (ap answers_message own) ∙ message in
+      let k = forwards-part in
+      let some = is-message t own ∙ message in
       let more_by : length (answered_parts (cr ∷ past) q) ≡ length (answered_parts past q) + 1 = ap length (answered-more k.part k.there) ∙ one_more (answered_parts past q) k.part some in
       let was = s.count_is in
       let inside : length (answered_parts (cr ∷ past) q) ≤ length (parts_among (forwarded past q)) = among-take (forwarded past q) (answers (cr ∷ past) q) in
@@ -214,9 +209,8 @@ module _ (h : Header) (past : Trace) (q resp : ℕ) (st : LineState) (accepted :
 
   pub inbox_other_cr : (t : Target) (parts : List Part) (count : ℕ) → t ≡ target_of h past cr → answers_message t ≡ false → InboxStands past q parts count → InboxStands (cr ∷ past) q parts count
   inbox_other_cr t parts count own message s =
-      let k = forwards-at h past q (answers past q) snoop_there.0 accepted.0 snoop_there.1 in
-      let none : is_some k.part ≡ false = k.kind ∙ sym (ap (λ o. is_some_and o (λ (v : Snoop). is_some_and (ac_kind_of v.snoop) is_message_snoop)) snoop_there.1)
-      ∙ sym (ap answers_message own) ∙ message in
+      let k = forwards-part in
+      let none = is-message t own ∙ message in
       let same : answered_parts (cr ∷ past) q ≡ answered_parts past q = answered-more k.part k.there ∙ no_more (answered_parts past q) k.part none in
       record {
         parts_are = s.parts_are ∙ sym (unanswered-old cr past q) ∙ ap (λ l. map (part_of (cr ∷ past)) (drop (length l) (parts_for past q))) (sym same) ∙ sym parts-same;
@@ -244,7 +238,7 @@ before-there : (xs ys : List Inbox) (q : ℕ) (c : Inbox) → length ys ≡ leng
 before-there xs ys q c size at = inbox_at xs q (let low = slice_get_within ys q c at in omega (arith, low, size))
 
 -- the identifiers, where the event issues one below 256, or none
-ids-new : (r : Recording) (e : Event) → ((x : Transaction) → IsTransaction r.past x → x.id < 256) → ((x : Transaction) → issued (length r.past) e ≡ Some x → x.id < 256)
+pub ids-new : (r : Recording) (e : Event) → ((x : Transaction) → IsTransaction r.past x → x.id < 256) → ((x : Transaction) → issued (length r.past) e ≡ Some x → x.id < 256)
     → (x : Transaction) → IsTransaction (e ∷ r.past) x → x.id < 256
 ids-new r e old new x i =
     elim (slice_get-more (transactions r.past) (issued (length r.past) e) i.0 x i.1) [
@@ -259,7 +253,7 @@ issue-idle past (Aw p i addr snoop dom bar) x q new = record { same_answers = re
 issue-idle past e x q new = cc
 
 -- all inboxes stay as they are
-inboxes_stay : (r : Recording) (s : Inboxes) (e : Event) → ((x : Transaction) → IsTransaction (e ∷ r.past) x → x.id < 256)
+pub inboxes_stay : (r : Recording) (s : Inboxes) (e : Event) → ((x : Transaction) → IsTransaction (e ∷ r.past) x → x.id < 256)
     → ((q : ℕ) (parts : List Part) (count : ℕ) → is_ace r.header q ≡ true → InboxStands r.past q parts count → InboxStands (e ∷ r.past) q parts count) → InboxesStand r s → InboxesStand (after r e) s
 inboxes_stay r s e ids each stands = record { size = stands.size; room = stands.room; ports = λ q b at ace. each q b.parts.items b.forwarded ace (stands.ports q b at ace); ids = ids }
 
@@ -323,115 +317,71 @@ inboxes_other_issue r s e t x own begun low plain stands =
     inboxes_stay r s e (ids-new r e stands.ids (λ y is. let same : x.id ≡ y.id = ap (λ (z : Transaction). z.id) (Some-injective x y (sym new ∙ is)) in omega (arith, same, low)))
     (λ q parts count ace. inbox_stays r.past e q parts count (issue-idle r.past e x q new) (rw (new, plain) refl)) stands
 
--- an event that issues nothing
-none-new : (r : Recording) (e : Event) → ((x : Transaction) → IsTransaction r.past x → x.id < 256) → issued (length r.past) e ≡ None
-    → (x : Transaction) → IsTransaction (e ∷ r.past) x → x.id < 256
-none-new r e old none = ids-new r e old (λ x is. let bad : None ≡ Some x = sym none ∙ is in cc)
+-- the inboxes after an event that issues nothing, and is nothing to other ports than this one
+inboxes_one : (r : Recording) (s n : Inboxes) (e : Event) (p : ℕ) → InboxesStand r s → issued (length r.past) e ≡ None → ((q : ℕ) → (q ≡ p → ⊥) → Idle r.past e q)
+    → length n.ports.items ≡ length s.ports.items → ((q : ℕ) → (q ≡ p → ⊥) → slice_get n.ports.items q ≡ slice_get s.ports.items q)
+    → ((b : Inbox) → slice_get s.ports.items p ≡ Some b → (c : Inbox) × (slice_get n.ports.items p ≡ Some c) × (deque_capacity b.parts ≤ deque_capacity c.parts)
+    × (InboxStands r.past p b.parts.items b.forwarded → InboxStands (e ∷ r.past) p c.parts.items c.forwarded)) → InboxesStand (after r e) n
+inboxes_one r s n e p stands none idle size others one = inboxes_from r s n e stands size each (ids-new r e stands.ids (λ x is. let bad : None ≡ Some x = sym none ∙ is in cc))
+  where
+    each : (q : ℕ) (c : Inbox) → slice_get n.ports.items q ≡ Some c → (b : Inbox) × (slice_get s.ports.items q ≡ Some b) × (deque_capacity b.parts ≤ deque_capacity c.parts)
+        × (is_ace r.header q ≡ true → InboxStands r.past q b.parts.items b.forwarded → InboxStands (e ∷ r.past) q c.parts.items c.forwarded)
+    each q c at =
+        let b = before-there s.ports.items n.ports.items q c size at in
+        elim (cases_eq q p) [
+          | inl same ↦
+              let k = one b.0 (ap (slice_get s.ports.items) (sym same) ∙ b.1) in
+              let is : k.0 ≡ c = Some-injective k.0 c (sym k.1 ∙ ap (slice_get n.ports.items) (sym same) ∙ at) in (
+                b.0,
+                b.1,
+                subst (λ (v : Inbox). deque_capacity b.0.parts ≤ deque_capacity v.parts) is k.2,
+                λ ace st. subst (λ m. InboxStands (e ∷ r.past) m c.parts.items c.forwarded) (sym same)
+                    (subst (λ (v : Inbox). InboxStands (e ∷ r.past) p v.parts.items v.forwarded) is (k.3 (subst (λ m. InboxStands r.past m b.0.parts.items b.0.forwarded) same st))),
+              )
+          | inr off ↦
+              let is : b.0 ≡ c = Some-injective b.0 c (sym b.1 ∙ sym (others q off) ∙ at) in (
+                b.0,
+                b.1,
+                same_room b.0 c (ap (λ (v : Inbox). v.parts) (sym is)),
+                λ ace st. subst (λ (v : Inbox). InboxStands (e ∷ r.past) q v.parts.items v.forwarded) is
+                    (inbox_stays r.past e q b.0.parts.items b.0.forwarded (idle q off) (ap (λ o. parts_in r.past o q) none) st),
+              )
+        ]
+
+ac-idle : (past : Trace) (p addr snoop q : ℕ) → (q ≡ p → ⊥) → Idle past (Ac p addr snoop) q
+ac-idle past p addr snoop q off = record { same_answers = refl; no_snoop = rw (ne_eqb q p off) refl }
+
+cr-idle : (past : Trace) (p resp : ℕ) (st : LineState) (q : ℕ) → (q ≡ p → ⊥) → Idle past (Cr p resp st) q
+cr-idle past p resp st q off = record { same_answers = rw (ne_eqb q p off) refl; no_snoop = refl }
 
 pub inboxes_forward : (r : Recording) (s n : Inboxes) (p addr snoop : ℕ) → IsAccepted r.header (Ac p addr snoop ∷ r.past) → is_some_and (ac_kind_of snoop) is_message_snoop ≡ true
     → InboxesStand r s → ForwardsTo p s n → InboxesStand (after r (Ac p addr snoop)) n
 inboxes_forward r s n p addr snoop accepted message stands f =
-    inboxes_from r s n (Ac p addr snoop) stands f.size each (none-new r (Ac p addr snoop) stands.ids refl)
-  where
-    other : (q : ℕ) → (q ≡ p → ⊥) → Idle r.past (Ac p addr snoop) q
-    other q off = record { same_answers = refl; no_snoop = rw (ne_eqb q p off) refl }
-
-    at_port : (b c : Inbox) → c.parts ≡ b.parts → (b.forwarded < length b.parts.items → c.forwarded ≡ b.forwarded + 1) → InboxStands r.past p b.parts.items b.forwarded
-        → InboxStands (Ac p addr snoop ∷ r.past) p c.parts.items c.forwarded
-    at_port b c parts count s =
-        let low = part_left r.header r.past p addr snoop accepted b.parts.items b.forwarded message s in
-        rw (ap (λ v. v.items) parts, count low) (inbox_forwards r.header r.past p addr snoop accepted b.parts.items b.forwarded message s)
-
-    each : (q : ℕ) (c : Inbox) → slice_get n.ports.items q ≡ Some c → (b : Inbox) × (slice_get s.ports.items q ≡ Some b) × (deque_capacity b.parts ≤ deque_capacity c.parts)
-        × (is_ace r.header q ≡ true → InboxStands r.past q b.parts.items b.forwarded → InboxStands (Ac p addr snoop ∷ r.past) q c.parts.items c.forwarded)
-    each q c at =
-        let b = before-there s.ports.items n.ports.items q c f.size at in
-        elim (cases_eq q p) [
-          | inl same ↦
-              let k = f.one b.0 (ap (slice_get s.ports.items) (sym same) ∙ b.1) in
-              let one : k.0 ≡ c = Some-injective k.0 c (sym k.1 ∙ ap (slice_get n.ports.items) (sym same) ∙ at) in
-              let parts : c.parts ≡ b.0.parts = ap (λ (v : Inbox). v.parts) (sym one) ∙ k.2 in
-              let count : b.0.forwarded < length b.0.parts.items → c.forwarded ≡ b.0.forwarded + 1 = λ l. ap (λ (v : Inbox). v.forwarded) (sym one) ∙ k.3 l in (
-                b.0,
-                b.1,
-                same_room b.0 c parts,
-                λ ace st. subst (λ m. InboxStands (Ac p addr snoop ∷ r.past) m c.parts.items c.forwarded) (sym same)
-                    (at_port b.0 c parts count (subst (λ m. InboxStands r.past m b.0.parts.items b.0.forwarded) same st)),
-              )
-          | inr off ↦
-              let one : b.0 ≡ c = Some-injective b.0 c (sym b.1 ∙ sym (f.others q off) ∙ at) in (
-                b.0,
-                b.1,
-                same_room b.0 c (ap (λ (v : Inbox). v.parts) (sym one)),
-                λ ace st. subst (λ (v : Inbox). InboxStands (Ac p addr snoop ∷ r.past) q v.parts.items v.forwarded) one
-                    (inbox_stays r.past (Ac p addr snoop) q b.0.parts.items b.0.forwarded (other q off) refl st),
-              )
-        ]
+    inboxes_one r s n (Ac p addr snoop) p stands refl (ac-idle r.past p addr snoop) f.size f.others (λ b at.
+    let k = f.one b at in (
+      k.0,
+      k.1,
+      same_room b k.0 k.2.parts,
+      λ st. rw (ap (λ v. v.items) k.2.parts, k.2.count (part_left r.header r.past p addr snoop accepted b.parts.items b.forwarded message st))
+          (inbox_forwards r.header r.past p addr snoop accepted b.parts.items b.forwarded message st),
+    ))
 
 pub inboxes_other_ac : (r : Recording) (s : Inboxes) (p addr snoop : ℕ) → IsAccepted r.header (Ac p addr snoop ∷ r.past) → is_some_and (ac_kind_of snoop) is_message_snoop ≡ false
     → InboxesStand r s → InboxesStand (after r (Ac p addr snoop)) s
 inboxes_other_ac r s p addr snoop accepted message stands =
-    inboxes_stay r s (Ac p addr snoop) (none-new r (Ac p addr snoop) stands.ids refl)
-    (λ q parts count ace st. elim (cases_eq q p) [
-      | inl same ↦ subst (λ m. InboxStands (Ac p addr snoop ∷ r.past) m parts count) (sym same)
-          (inbox_other_ac r.header r.past p addr snoop accepted parts count message (subst (λ m. InboxStands r.past m parts count) same st))
-      | inr off ↦ inbox_stays r.past (Ac p addr snoop) q parts count (record { same_answers = refl; no_snoop = rw (ne_eqb q p off) refl }) refl st
-    ]) stands
+    inboxes_one r s s (Ac p addr snoop) p stands refl (ac-idle r.past p addr snoop) refl (λ q off. refl)
+    (λ b at. (b, at, omega arith, inbox_other_ac r.header r.past p addr snoop accepted b.parts.items b.forwarded message))
 
 pub inboxes_answer : (r : Recording) (s n : Inboxes) (p resp : ℕ) (st : LineState) (t : Target) → IsAccepted r.header (Cr p resp st ∷ r.past) → t ≡ target_of r.header r.past (Cr p resp st)
     → answers_message t ≡ true → InboxesStand r s → AnswersFirst p s n → InboxesStand (after r (Cr p resp st)) n
 inboxes_answer r s n p resp st t accepted own message stands f =
-    inboxes_from r s n (Cr p resp st) stands f.size each (none-new r (Cr p resp st) stands.ids refl)
-  where
-    at_port : (b c : Inbox) → c.parts.items ≡ drop 1 b.parts.items → c.forwarded ≡ b.forwarded - 1 → InboxStands r.past p b.parts.items b.forwarded
-        → InboxStands (Cr p resp st ∷ r.past) p c.parts.items c.forwarded
-    at_port b c items count z = rw (items, count) (inbox_answers r.header r.past p resp st accepted t b.parts.items b.forwarded own message z)
-
-    each : (q : ℕ) (c : Inbox) → slice_get n.ports.items q ≡ Some c → (b : Inbox) × (slice_get s.ports.items q ≡ Some b) × (deque_capacity b.parts ≤ deque_capacity c.parts)
-        × (is_ace r.header q ≡ true → InboxStands r.past q b.parts.items b.forwarded → InboxStands (Cr p resp st ∷ r.past) q c.parts.items c.forwarded)
-    each q c at =
-        let b = before-there s.ports.items n.ports.items q c f.size at in
-        elim (cases_eq q p) [
-          | inl same ↦
-              let k = f.one b.0 (ap (slice_get s.ports.items) (sym same) ∙ b.1) in
-              let one : k.0 ≡ c = Some-injective k.0 c (sym k.1 ∙ ap (slice_get n.ports.items) (sym same) ∙ at) in
-              let items : c.parts.items ≡ drop 1 b.0.parts.items = ap (λ (v : Inbox). v.parts.items) (sym one) ∙ k.2 in
-              let count : c.forwarded ≡ b.0.forwarded - 1 = ap (λ (v : Inbox). v.forwarded) (sym one) ∙ k.3 in
-              let room : deque_capacity c.parts ≡ deque_capacity b.0.parts = ap (λ (v : Inbox). deque_capacity v.parts) (sym one) ∙ k.4 in (
-                b.0,
-                b.1,
-                omega (arith, room),
-                λ ace z. subst (λ m. InboxStands (Cr p resp st ∷ r.past) m c.parts.items c.forwarded) (sym same)
-                    (at_port b.0 c items count (subst (λ m. InboxStands r.past m b.0.parts.items b.0.forwarded) same z)),
-              )
-          | inr off ↦
-              let one : b.0 ≡ c = Some-injective b.0 c (sym b.1 ∙ sym (f.others q off) ∙ at) in (
-                b.0,
-                b.1,
-                same_room b.0 c (ap (λ (v : Inbox). v.parts) (sym one)),
-                λ ace z. subst (λ (v : Inbox). InboxStands (Cr p resp st ∷ r.past) q v.parts.items v.forwarded) one
-                    (inbox_stays r.past (Cr p resp st) q b.0.parts.items b.0.forwarded (record { same_answers = rw (ne_eqb q p off) refl; no_snoop = refl }) refl z),
-              )
-        ]
+    inboxes_one r s n (Cr p resp st) p stands refl (cr-idle r.past p resp st) f.size f.others (λ b at.
+    let k = f.one b at in
+    let room = k.2.room in
+    (k.0, k.1, omega (arith, room), λ z. rw (k.2.parts, k.2.count) (inbox_answers r.header r.past p resp st accepted t b.parts.items b.forwarded own message z)))
 
 pub inboxes_other_cr : (r : Recording) (s : Inboxes) (p resp : ℕ) (st : LineState) (t : Target) → IsAccepted r.header (Cr p resp st ∷ r.past) → t ≡ target_of r.header r.past (Cr p resp st)
     → answers_message t ≡ false → InboxesStand r s → InboxesStand (after r (Cr p resp st)) s
 inboxes_other_cr r s p resp st t accepted own message stands =
-    inboxes_stay r s (Cr p resp st) (none-new r (Cr p resp st) stands.ids refl)
-    (λ q parts count ace z. elim (cases_eq q p) [
-      | inl same ↦ subst (λ m. InboxStands (Cr p resp st ∷ r.past) m parts count) (sym same)
-          (inbox_other_cr r.header r.past p resp st accepted t parts count own message (subst (λ m. InboxStands r.past m parts count) same z))
-      | inr off ↦ inbox_stays r.past (Cr p resp st) q parts count (record { same_answers = rw (ne_eqb q p off) refl; no_snoop = refl }) refl z
-    ]) stands
-
--- any other event
-pub inboxes_other : (r : Recording) (s : Inboxes) (e : Event) (t : Target) → t ≡ target_of r.header r.past e → begun_in e t ≡ None
-    → ((p addr snoop : ℕ) → e ≡ Ac p addr snoop → ⊥) → ((p resp : ℕ) (st : LineState) → e ≡ Cr p resp st → ⊥) → InboxesStand r s → InboxesStand (after r e) s
-inboxes_other r s e t own begun not_ac not_cr stands =
-    let none : issued (length r.past) e ≡ None = sym (begun-is r.header r.past e t own) ∙ begun in
-    inboxes_stay r s e (none-new r e stands.ids none) (λ q parts count ace. inbox_stays r.past e q parts count (idle e not_ac not_cr q) (ap (λ o. parts_in r.past o q) none)) stands
-  where
-    idle : (d : Event) → ((p addr snoop : ℕ) → d ≡ Ac p addr snoop → ⊥) → ((p resp : ℕ) (st : LineState) → d ≡ Cr p resp st → ⊥) → (q : ℕ) → Idle r.past d q
-    idle (Ac p addr snoop) no_ac no_cr q = absurd (no_ac p addr snoop refl)
-    idle (Cr p resp st) no_ac no_cr q = absurd (no_cr p resp st refl)
-    idle d no_ac no_cr q = record { same_answers = refl; no_snoop = refl }
+    inboxes_one r s s (Cr p resp st) p stands refl (cr-idle r.past p resp st) refl (λ q off. refl)
+    (λ b at. (b, at, omega arith, inbox_other_cr r.header r.past p resp st accepted t b.parts.items b.forwarded own message))

@@ -1,12 +1,9 @@
 -- The parts for a port, and how many of them it has answered, event by event.
 use Rattle.std.proofs.Common.{◌≡◌, ◌≢◌, ℕ, zero, suc, ◌+◌, ◌*◌, ◌<◌, ◌≤◌, Bool, true, false, not, ◌&&◌, ◌||◌, nat_eq, List, [], ◌∷◌, length, map, get_or, Option, Some, None, is_some, refl, sym, ap, ◌∙◌, arith, inl, inr, length-drop}
-use Rattle.std.specs.List.{All, AllPairs}
+use Rattle.ace_sysck.proofs.Terms.{All, AllPairs, Read, Transaction, Header, Event, Trace, at_point, is_ace, is_read, issued, outstanding, is_completed, is_message_part, is_sync_word, has_second, first_waiting, parts_with, parts_in, parts_for, answered_parts, has_part, IsAccepted, slot_of, PortMessages, Part, PortMessagesStand, part_of, parts_sent}
 use Rattle.std.proofs.lemmas.Bool.{cases_Bool, and_parts, and_right, eq-eqb}
 use Rattle.std.proofs.lemmas.List.{get_or-drop}
 use Rattle.std.proofs.lemmas.List.Elements.{All-nil, All-cons, All-append, All-weaker, All-head, All-tail, All-drop, All-get_or}
-use Rattle.ace_event.specs.declared.event.Channel.TheVariants.{Read}
-use Rattle.ace_model.specs.declared.transactions.Transaction.{Transaction}
-use Rattle.ace_model.proofs.Terms.{Header, Event, Trace, at_point, is_ace, is_read, issued, outstanding, is_completed, is_message_part, is_sync_word, has_second, first_waiting, parts_with, parts_in, parts_for, answered_parts, has_part, IsAccepted}
 use Rattle.ace_model.proofs.Dvm.Parts.{IsBelow}
 use Rattle.ace_model.proofs.Dvm.Answered.{complete_part-answered}
 use Rattle.ace_model.proofs.Trace.Growth.{IsIssued, issued-new, issued-old, issued-cases, at_point-before}
@@ -16,11 +13,6 @@ use Rattle.ace_model.proofs.Trace.LineOnce.{outstanding_is}
 use Rattle.ace_model.proofs.Trace.Looks.{is_read-is}
 use Rattle.ace_model.proofs.General.Options.{Some-injective}
 use Rattle.ace_model.proofs.General.Pigeonhole.{few_apart}
-use Rattle.ace_sysck.specs.Results.{slot_of}
-use Rattle.ace_sysck.specs.declared.messages.PortMessages.{PortMessages}
-use Rattle.ace_sysck.specs.declared.inboxes.Part.{Part}
-use Rattle.ace_sysck.specs.Messages.{PortMessagesStand}
-use Rattle.ace_sysck.specs.Inboxes.{part_of, parts_sent}
 use Rattle.ace_sysck.proofs.Steps.{port_within}
 use Rattle.ace_sysck.proofs.BarrierSteps.{issuing-port}
 use Rattle.ace_sysck.proofs.Unanswered.{still-outstanding}

@@ -1,32 +1,15 @@
 -- What the rules on the parts of messages say where the inboxes stand.
 use Rattle.std.proofs.Common.{◌≡◌, ◌≢◌, ◌⊎◌, ℕ, zero, suc, ◌+◌, ◌<◌, Bool, true, false, not, ◌&&◌, ◌||◌, nat_eq, nat_lt, List, [], ◌∷◌, ◌++◌, length, map, take, drop, slice_get, get_or, Option, Some, None, refl, sym, ap, subst, ◌∙◌, arith, inl, inr, length-append}
-use Rattle.std.specs.List.{AllPairs}
-use Rattle.std.specs.Option.{option_map}
+use Rattle.ace_sysck.proofs.Terms.{AllPairs, option_map, SnoopKind, Transaction, Ac, Trace, implies, is_some_and, is_none_or, is_ace, is_message_part, is_message_snoop, ac_kind_of, first_waiting, parts_for, parts_among, forwarded, answered_parts, has_answered, has_part, list_all, ports_below, is_other_ace, is_answered_by_all, k36, next_part, is_second_part, forwards_next, Target, Recording, Inbox, Inboxes, is_at, InboxStands, InboxesStand, MayAskInboxes, part_of, own_transaction, message_with, next_message_in, next_message, next_in, forwards_in, awaits, has_place}
 use Rattle.std.proofs.lemmas.Bool.{cases_Bool, and_parts, eqb-true, eq-eqb, ne_eqb, ltb-true, or_left}
 use Rattle.std.proofs.lemmas.List.{take-append-drop, get_or_append_left, get_or-append-add, get_or_default}
+use Rattle.std.proofs.lemmas.Option.{slice_get-map}
 use Rattle.std.proofs.lemmas.List.Folds.{list_any-append, list_any_none}
-use Rattle.ace_codes.specs.declared.kind.SnoopKind.{SnoopKind}
-use Rattle.ace_model.specs.declared.transactions.Transaction.{Transaction}
-use Rattle.ace_model.proofs.Terms.{Ac, Trace, implies, is_some_and, is_none_or, is_ace, is_message_part, is_message_snoop, ac_kind_of, first_waiting, parts_for, parts_among, forwarded, answered_parts, has_answered, has_part, list_all, ports_below, is_other_ace, is_answered_by_all, k36}
-use Rattle.ace_model.specs.Messages.{next_part, is_second_part}
-use Rattle.ace_model.specs.OrderRules.{forwards_next}
 use Rattle.ace_model.proofs.Dvm.Parts.{parts-cases}
 use Rattle.ace_model.proofs.Dvm.Forwarding.{answered-first}
 use Rattle.ace_model.proofs.Trace.Growth.{IsIssued}
 use Rattle.ace_model.proofs.General.Lists.{start-is, slice_get-drop}
-use Rattle.ace_portck.specs.Target.{Target}
-use Rattle.ace_portck.specs.Targets.{Recording}
-use Rattle.ace_sysck.specs.declared.inboxes.Inbox.{Inbox}
-use Rattle.ace_sysck.specs.declared.inboxes.Inboxes.{Inboxes}
-use Rattle.ace_sysck.specs.Messages.{is_at}
-use Rattle.ace_sysck.specs.Inboxes.{InboxStands, InboxesStand, MayAskInboxes, part_of, own_transaction, message_with, next_message_in, next_message, next_in, forwards_in, awaits, has_place}
 use Rattle.ace_sysck.proofs.PartLaws.{parts-apart, waiting-apart, AreOthers}
-
--- an element of a list that is mapped
-pub slice_get-map : {A B : Type 0} → (f : A → B) (xs : List A) (k : ℕ) → slice_get (map f xs) k ≡ option_map f (slice_get xs k)
-slice_get-map f [] k = refl
-slice_get-map f (x ∷ xs) zero = refl
-slice_get-map f (x ∷ xs) (suc k) = slice_get-map f xs k
 
 -- a port of the header has an inbox
 pub inbox_at : (xs : List Inbox) (k : ℕ) → k < length xs → (b : Inbox) × (slice_get xs k ≡ Some b)
@@ -186,10 +169,13 @@ part-after past q b k =
     ∙ slice_get-drop (parts_for past q) a (b.forwarded + 1) (length (parts_among (forwarded past q)) + 1) (omega (arith, count))
 
 -- the next message
-pub next-message-is : (r : Recording) (s : Inboxes) (q : ℕ) (b : Inbox) → InboxesStand r s → is_ace r.header q ≡ true → slice_get s.ports.items q ≡ Some b
+pub next_message_is : (r : Recording) (s : Inboxes) (q : ℕ) (b : Inbox) → InboxesStand r s → is_ace r.header q ≡ true → slice_get s.ports.items q ≡ Some b
     → next_message_in b.parts.items b.forwarded ≡ next_message r.past q
-next-message-is r s q b stands ace at =
+next_message_is r s q b stands ace at =
     let k = stands.ports q b at ace in
     let first : option_map own_transaction (slice_get b.parts.items b.forwarded) ≡ next_part r.past q =
     ap (λ o. option_map own_transaction (next_in o)) (sym at) ∙ ap (option_map own_transaction) (next-is r s q stands ace) ∙ own-part r.past (next_part r.past q) in
     ap (λ o. message_with o (option_map own_transaction (slice_get b.parts.items (b.forwarded + 1)))) first ∙ ap (message_with (next_part r.past q)) (part-after r.past q b k)
+
+-- the next message of an inbox
+pub ruleset next_messages = (inbox_of, next_message_is)

@@ -1,10 +1,8 @@
 use Rattle.std.proofs.Common.{◌≡◌, ◌<◌, length, slice_get, slice_set, Some, arith, sym, ap, ◌∙◌}
 use Rattle.std.proofs.lemmas.Grind.{common_steps}
 use Rattle.std.proofs.lemmas.Option.{slice_get-get_or}
-use Rattle.std.specs.Vec.{with_item}
-use Rattle.ace_sysck.specs.declared.inboxes.Inbox.{Inbox}
-use Rattle.ace_sysck.specs.declared.inboxes.Inboxes.{Inboxes}
-use Rattle.ace_sysck.proofs.Forwarding.InboxSteps.{answers_outside, answers_one}
+use Rattle.ace_sysck.proofs.Terms.{with_item, Inbox, Inboxes, LosesFirst}
+use Rattle.ace_sysck.proofs.Forwarding.InboxSteps.{changes_outside, changes_one}
 use Rattle.ace_sysck.proofs.inboxes.Inboxes.answer.Goals as goal
 
 pub returns-then-p-len : goal.returns-then-p-len
@@ -17,7 +15,8 @@ returns-then-p-len c =
     let low : p < length s.ports.items = grind (arith, common_steps) in
     let at : slice_get s.ports.items p ≡ Some b = slice_get-get_or s.ports.items p b low ∙ ap Some (sym c.index_mut-inbox.ensures.value) in
     let items : after.ports.items ≡ slice_set s.ports.items p n = grind (arith, common_steps) in
-    answers_one s after p b n at items c.pop_front-first.ensures.rest c.saturating_sub-inbox.ensures c.pop_front-first.ensures.capacity
+    changes_one LosesFirst s after p b n at items
+    (record { parts = c.pop_front-first.ensures.rest; count = c.saturating_sub-inbox.ensures; room = c.pop_front-first.ensures.capacity })
 
 pub returns-else-p-len : goal.returns-else-p-len
-returns-else-p-len c = answers_outside c.args.self.now c.args.port (grind (arith, common_steps))
+returns-else-p-len c = changes_outside LosesFirst c.args.self.now c.args.port (grind (arith, common_steps))

@@ -1,10 +1,8 @@
 use Rattle.std.proofs.Common.{◌≡◌, ◌<◌, ◌+◌, length, slice_get, slice_set, Some, arith, refl, sym, ap, ◌∙◌}
 use Rattle.std.proofs.lemmas.Grind.{common_steps}
 use Rattle.std.proofs.lemmas.Option.{slice_get-get_or}
-use Rattle.std.specs.Vec.{with_item}
-use Rattle.ace_sysck.specs.declared.inboxes.Inbox.{Inbox}
-use Rattle.ace_sysck.specs.declared.inboxes.Inboxes.{Inboxes}
-use Rattle.ace_sysck.proofs.Forwarding.InboxSteps.{forwards_outside, forwards_one}
+use Rattle.ace_sysck.proofs.Terms.{with_item, Inbox, Inboxes, IsForwarded}
+use Rattle.ace_sysck.proofs.Forwarding.InboxSteps.{changes_outside, changes_one}
 use Rattle.ace_sysck.proofs.inboxes.Inboxes.forward.Goals as goal
 
 pub returns-then-inbox-len : goal.returns-then-inbox-len
@@ -17,7 +15,7 @@ returns-then-inbox-len c =
     let low : p < length s.ports.items = grind (arith, common_steps) in
     let at : slice_get s.ports.items p ≡ Some b = slice_get-get_or s.ports.items p b low ∙ ap Some (sym c.index_mut-inbox.ensures.value) in
     let items : after.ports.items ≡ slice_set s.ports.items p n = grind (arith, common_steps) in
-    forwards_one s after p b n at items refl (λ l. refl)
+    changes_one IsForwarded s after p b n at items (record { parts = refl; count = λ l. refl })
 
 pub returns-else-inbox-len : goal.returns-else-inbox-len
 returns-else-inbox-len c =
@@ -32,7 +30,7 @@ returns-else-inbox-len c =
     let full = c.if-inbox-len.false in
     let count = c.len-then-p-len.ensures in
     let len = b.parts.ok.0 in
-    forwards_one s after p b n at items refl (λ l. absurd (omega (arith, l, full, count, len)))
+    changes_one IsForwarded s after p b n at items (record { parts = refl; count = λ l. absurd (omega (arith, l, full, count, len)) })
 
 pub returns-else-p-len : goal.returns-else-p-len
-returns-else-p-len c = forwards_outside c.args.self.now c.args.port (grind (arith, common_steps))
+returns-else-p-len c = changes_outside IsForwarded c.args.self.now c.args.port (grind (arith, common_steps))

@@ -1,6 +1,6 @@
 use Rattle.std.proofs.Common.{◌≡◌, ◌+◌, ◌++◌, [], ◌∷◌, length, slice_get, arith, sym, ap, subst, ◌∙◌, length-append}
 use Rattle.std.proofs.lemmas.Grind.{common_steps}
-use Rattle.ace_sysck.specs.Inboxes.{IsEmptyInbox}
+use Rattle.ace_sysck.proofs.Terms.{IsEmptyInbox}
 use Rattle.ace_sysck.proofs.Forwarding.InboxSteps.{fresh_more}
 use Rattle.ace_sysck.proofs.inboxes.Inboxes.new.Goals as goal
 

@@ -1,6 +1,5 @@
 use Rattle.std.proofs.Common.{◌≡◌, ℕ, length, slice_get, Some}
-use Rattle.ace_sysck.specs.declared.inboxes.Inbox.{Inbox}
-use Rattle.ace_sysck.specs.Inboxes.{IsEmptyInbox}
+use Rattle.ace_sysck.proofs.Terms.{Inbox, IsEmptyInbox}
 use Rattle.ace_sysck.proofs.inboxes.Inboxes.new.Given as goal
 
 abbrev pub invariant-loop-port : goal.invariant-loop-port

@@ -2,7 +2,7 @@ use Rattle.std.proofs.Common.{◌≡◌, slice_get, Some, arith, inl, inr, sym, 
 use Rattle.std.proofs.lemmas.Bool.{cases_eq}
 use Rattle.std.proofs.lemmas.Grind.{common_steps}
 use Rattle.std.proofs.lemmas.Option.{slice_get_within}
-use Rattle.ace_sysck.specs.Inboxes.{Receives, sent_to, sent_list}
+use Rattle.ace_sysck.proofs.Terms.{Receives, sent_to, sent_list}
 use Rattle.ace_sysck.proofs.inboxes.Inboxes.send.Goals as goal
 
 pub returns-clause-all : goal.returns-clause-all

@@ -1,6 +1,5 @@
 use Rattle.std.proofs.Common.{◌≡◌, ◌≤◌, ◌<◌, ℕ, length, slice_get, Some}
-use Rattle.ace_sysck.specs.declared.inboxes.Inbox.{Inbox}
-use Rattle.ace_sysck.specs.Inboxes.{Receives, sent_to, sent_list}
+use Rattle.ace_sysck.proofs.Terms.{Inbox, Receives, sent_to, sent_list}
 use Rattle.ace_sysck.proofs.inboxes.Inboxes.send.Given as goal
 
 abbrev pub invariant-loop-q : goal.invariant-loop-q

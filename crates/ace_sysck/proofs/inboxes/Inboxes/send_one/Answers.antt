@@ -1,10 +1,9 @@
 use Rattle.std.proofs.Common.{◌≡◌, ◌<◌, length, slice_get, slice_set, Some, arith, sym, ap, ◌∙◌}
+use Rattle.std.proofs.lemmas.Bool.{ne_eqb}
 use Rattle.std.proofs.lemmas.Grind.{common_steps}
 use Rattle.std.proofs.lemmas.Option.{slice_get-get_or}
-use Rattle.std.specs.Vec.{with_item}
-use Rattle.ace_sysck.specs.declared.inboxes.Inboxes.{Inboxes}
-use Rattle.ace_sysck.specs.Inboxes.{sent_list}
-use Rattle.ace_sysck.proofs.Forwarding.InboxSteps.{sends_own, sends_one, sends_outside}
+use Rattle.ace_sysck.proofs.Terms.{with_item, Inboxes, Receives, sent_list, sent_to}
+use Rattle.ace_sysck.proofs.Forwarding.InboxSteps.{sends_own, changes_one, changes_outside}
 use Rattle.ace_sysck.proofs.inboxes.Inboxes.send_one.Goals as goal
 
 pub returns-then-q-sender : goal.returns-then-q-sender
@@ -14,7 +13,7 @@ pub returns-else-q-len : goal.returns-else-q-len
 returns-else-q-len c =
     let n = c.len.ensures in
     let f = c.if-q-len.false in
-    sends_outside c.args.self.now c.args.q c.args.sender (sent_list c.args.sent.now) (grind (arith, common_steps))
+    changes_outside _ c.args.self.now c.args.q (grind (arith, common_steps))
 
 pub returns-then-q-len : goal.returns-then-q-len
 returns-then-q-len c =
@@ -26,4 +25,5 @@ returns-then-q-len c =
     let low : q < length s.ports.items = grind (arith, common_steps) in
     let at : slice_get s.ports.items q ≡ Some b = slice_get-get_or s.ports.items q b low ∙ ap Some (sym c.index_mut.ensures.value) in
     let items : n.ports.items ≡ slice_set s.ports.items q c.receive.new.inbox = grind (arith, common_steps) in
-    sends_one s n q c.args.sender (sent_list c.args.sent.now) b c.receive.new.inbox c.if-q-sender.false at c.receive.ensures items
+    changes_one (Receives (sent_to q c.args.sender (sent_list c.args.sent.now))) s n q b c.receive.new.inbox at items
+    (rw (ne_eqb q c.args.sender c.if-q-sender.false) c.receive.ensures)

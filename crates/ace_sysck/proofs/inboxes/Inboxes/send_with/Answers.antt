@@ -1,5 +1,5 @@
 use Rattle.std.proofs.Common.{subst}
-use Rattle.ace_sysck.specs.Inboxes.{SendsAll}
+use Rattle.ace_sysck.proofs.Terms.{SendsAll}
 use Rattle.ace_sysck.proofs.inboxes.Inboxes.send_with.Goals as goal
 
 pub returns-clause-all : goal.returns-clause-all

@@ -1,5 +1,5 @@
 use Rattle.std.proofs.Common.{rules, ◌≡◌, get_or, sym, subst, ◌∙◌}
-use Rattle.ace_sysck.specs.Messages.{PortMessagesStand, silent}
+use Rattle.ace_sysck.proofs.Terms.{PortMessagesStand, silent}
 use Rattle.ace_sysck.proofs.MessageSteps.{in_order-is}
 use Rattle.ace_sysck.proofs.messages.Messages.lets_begin.Goals as goal
 

@@ -1,7 +1,5 @@
 use Rattle.std.proofs.Common.{◌∷◌, sym, subst, true, refl, Bool}
-use Rattle.ace_model.proofs.Terms.{D, IsAccepted}
-use Rattle.ace_portck.specs.Targets.{after}
-use Rattle.ace_sysck.specs.Monitors.{MonitorsStand}
+use Rattle.ace_sysck.proofs.Terms.{D, IsAccepted, after, MonitorsStand}
 use Rattle.ace_sysck.proofs.Steps.{port_within}
 use Rattle.ace_sysck.proofs.MonitorSteps.{monitors_store, monitors_exclusive_store}
 use Rattle.ace_sysck.proofs.monitors.Monitors.store.Goals as goal

@@ -1,7 +1,7 @@
 use Rattle.std.proofs.Common.{◌≡◌, ◌+◌, ℕ, true, false, Option, None, Result, Ok, Err, is_err, is_some, IsOk, IfOk, OnOk, if◌then◌else◌, nat_eq, sym, ap, ◌∙◌, arith}
 use Rattle.std.proofs.lemmas.Bool.{ne_eqb}
 use Rattle.std.proofs.lemmas.Grind.{common_steps}
-use Rattle.indexmap.specs.IndexMap.{get, index_map_len}
+use Rattle.ace_sysck.proofs.Terms.{get, index_map_len}
 use Rattle.ace_portck.proofs.LineMaps.{room-for-line, room-with}
 use Rattle.ace_sysck.proofs.registrations.Registrations.make_room.Goals as goal
 

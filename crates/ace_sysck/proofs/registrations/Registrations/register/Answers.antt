@@ -1,7 +1,6 @@
 use Rattle.std.proofs.Common.{◌≡◌, ℕ, Some, nat_eq, arith}
 use Rattle.std.proofs.lemmas.Grind.{common_steps}
-use Rattle.indexmap.specs.IndexMap.{get}
-use Rattle.ace_sysck.specs.Registrations.{registered_bits, kept_bits}
+use Rattle.ace_sysck.proofs.Terms.{get, registered_bits, kept_bits}
 use Rattle.ace_sysck.proofs.RegistrationSteps.{registrations_lock}
 use Rattle.ace_sysck.proofs.registrations.Registrations.register.Goals as goal
 

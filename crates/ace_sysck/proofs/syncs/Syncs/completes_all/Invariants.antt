@@ -1,6 +1,5 @@
 use Rattle.std.proofs.Common.{◌≡◌, nat_le, get_or}
-use Rattle.ace_model.proofs.Terms.{implies, list_all, ports_below, is_other_ace}
-use Rattle.ace_sysck.specs.Syncs.{untold}
+use Rattle.ace_sysck.proofs.Terms.{implies, list_all, ports_below, is_other_ace, untold}
 use Rattle.ace_sysck.proofs.syncs.Syncs.completes_all.Given as goal
 
 abbrev pub invariant-loop-q : goal.invariant-loop-q

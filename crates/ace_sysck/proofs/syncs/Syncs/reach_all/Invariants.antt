@@ -1,5 +1,5 @@
 use Rattle.std.proofs.Common.{◌≡◌, ◌≤◌, ◌<◌, ℕ, nat_eq, length, get_or}
-use Rattle.ace_sysck.specs.Syncs.{untold, reached_by}
+use Rattle.ace_sysck.proofs.Terms.{untold, reached_by}
 use Rattle.ace_sysck.proofs.syncs.Syncs.reach_all.Given as goal
 
 abbrev pub invariant-loop-q : goal.invariant-loop-q

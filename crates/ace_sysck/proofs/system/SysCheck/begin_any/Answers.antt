@@ -1,7 +1,6 @@
 use Rattle.std.proofs.Common.{◌≡◌, ◌∙◌, true, refl, sym}
-use Rattle.ace_model.specs.Barriers.{is_barrier_half}
-use Rattle.ace_model.specs.Kinds.{may_be_exclusive}
-use Rattle.ace_sysck.proofs.ByKind.Responses.{half-other}
+use Rattle.ace_sysck.proofs.Terms.{is_barrier_half, may_be_exclusive}
+use Rattle.ace_sysck.proofs.ByKind.Responses.{half_other}
 use Rattle.ace_sysck.proofs.WhatIsHeard.{completion-heard, next, unlocked}
 use Rattle.ace_sysck.proofs.system.SysCheck.begin_any.Goals as goal
 
@@ -9,7 +8,7 @@ pub returns-then-is_barrier_half : goal.returns-then-is_barrier_half
 returns-then-is_barrier_half c = λ p lines r e new m.
     let x = c.args.x.now in
     let half : is_barrier_half x ≡ true = sym c.is_barrier_half.ensures ∙ c.if-is_barrier_half.true in
-    let lock = unlocked r.header r.past e x (m.stands.accepted, m.kept) new (half-other x may_be_exclusive refl half) in
+    let lock = unlocked r.header r.past e x (m.stands.accepted, m.kept) new (half_other x may_be_exclusive refl half) in
     next c.args.self.now c.begin_barrier.new.self p lines r e m
     (c.begin_barrier.ensures.stands r e m.stands (record { issues = new; half = half; unlocked = lock }) m.kept m.few) c.begin_barrier.ensures.roomy
 

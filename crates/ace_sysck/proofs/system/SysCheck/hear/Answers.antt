@@ -1,8 +1,7 @@
 use Rattle.std.proofs.Common.{sym, ap, subst}
-use Rattle.ace_sysck.specs.Events.{is_issue}
-use Rattle.ace_sysck.specs.Hearing.{Hears}
+use Rattle.ace_sysck.proofs.Terms.{is_issue, Hears}
 use Rattle.ace_sysck.proofs.Unmoved.{moves_nothing}
-use Rattle.ace_sysck.proofs.WhatIsHeard.{heard, heard-still}
+use Rattle.ace_sysck.proofs.WhatIsHeard.{heard, heard_still}
 use Rattle.ace_sysck.proofs.system.SysCheck.hear.Goals as goal
 
 pub returns-in-Ar : goal.returns-in-Ar
@@ -48,16 +47,16 @@ returns-in-S c =
     (heard c.args.self.now c.change.new.self c.args.ports.now _ (λ r. c.change.ensures.stands r) c.change.ensures.roomy)
 
 pub returns-in-W : goal.returns-in-W
-returns-in-W c = heard-still c.args.self.now c.args.ports.now c.args.event.now (ap moves_nothing c.in-W.is)
+returns-in-W c = heard_still c.args.self.now c.args.ports.now c.args.event.now (ap moves_nothing c.in-W.is)
 
 pub returns-in-Cd : goal.returns-in-Cd
-returns-in-Cd c = heard-still c.args.self.now c.args.ports.now c.args.event.now (ap moves_nothing c.in-Cd.is)
+returns-in-Cd c = heard_still c.args.self.now c.args.ports.now c.args.event.now (ap moves_nothing c.in-Cd.is)
 
 pub returns-in-M : goal.returns-in-M
-returns-in-M c = heard-still c.args.self.now c.args.ports.now c.args.event.now (ap moves_nothing c.in-M.is)
+returns-in-M c = heard_still c.args.self.now c.args.ports.now c.args.event.now (ap moves_nothing c.in-M.is)
 
 pub returns-in-Op : goal.returns-in-Op
-returns-in-Op c = heard-still c.args.self.now c.args.ports.now c.args.event.now (ap moves_nothing c.in-Op.is)
+returns-in-Op c = heard_still c.args.self.now c.args.ports.now c.args.event.now (ap moves_nothing c.in-Op.is)
 
 pub returns-in-Mem : goal.returns-in-Mem
-returns-in-Mem c = heard-still c.args.self.now c.args.ports.now c.args.event.now (ap moves_nothing c.in-Mem.is)
+returns-in-Mem c = heard_still c.args.self.now c.args.ports.now c.args.event.now (ap moves_nothing c.in-Mem.is)

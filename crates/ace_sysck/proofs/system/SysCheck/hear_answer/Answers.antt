@@ -1,8 +1,5 @@
 use Rattle.std.proofs.Common.{◌≡◌, ◌∙◌, Some, sym, ap}
-use Rattle.std.specs.Option.{option_copied}
-use Rattle.ace_event.specs.declared.event.Event.TheVariants.{Cr}
-use Rattle.ace_model.specs.Snoops.{answered}
-use Rattle.ace_portck.specs.SnoopAnswers.{IsAnswered}
+use Rattle.ace_sysck.proofs.Terms.{option_copied, Cr, answered, IsAnswered}
 use Rattle.ace_sysck.proofs.WhatIsHeard.{answer-found, answered-kind, next}
 use Rattle.ace_sysck.proofs.system.SysCheck.hear_answer.Goals as goal
 

@@ -1,8 +1,5 @@
-use Rattle.std.proofs.Common.{◌≡◌, ◌∙◌, Some, option_map, sym, ap}
-use Rattle.std.specs.Option.{option_copied}
-use Rattle.ace_event.specs.declared.event.Event.TheVariants.{G}
-use Rattle.ace_model.specs.Transactions.{outstanding}
-use Rattle.ace_portck.specs.Targets.{progress_of}
+use Rattle.std.proofs.Common.{◌∙◌, sym, ap}
+use Rattle.ace_sysck.proofs.Terms.{option_copied, G, outstanding}
 use Rattle.ace_portck.proofs.LineMaps.{room-stays}
 use Rattle.ace_sysck.proofs.ByKind.Grants.{grant-known}
 use Rattle.ace_sysck.proofs.Steps.{progress_from}
@@ -14,9 +11,7 @@ returns-in-Some c = λ lines r m.
     let a = c.args in
     let h = r.header in
     let x = c.in-Some.x.now in
-    let served : option_map (progress_of h r.past) (outstanding h r.past a.port a.chan a.id) ≡ Some x =
-    sym (c.outstanding.ensures r m.ports) ∙ ap option_copied c.in-Some.is in
-    let out = progress_from h r.past (outstanding h r.past a.port a.chan a.id) x served in
+    let out = progress_from h r.past (outstanding h r.past a.port a.chan a.id) x (sym (c.outstanding.ensures r m.ports) ∙ ap option_copied c.in-Some.is) in
     let known = grant-known a.self.now r a.port a.chan a.id x.transaction m.stands out m.kept in
     let made = c.make_lock_room-room in
     let room = where-ok made.result (made.ensures.succeeds lines r.past known m.room m.few_lines) made.ensures.room in

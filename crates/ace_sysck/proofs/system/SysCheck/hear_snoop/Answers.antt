@@ -1,6 +1,6 @@
 use Rattle.std.proofs.Common.{◌∙◌, sym}
-use Rattle.ace_event.specs.declared.event.Event.TheVariants.{Ac}
-use Rattle.ace_sysck.proofs.WhatIsHeard.{next, snoop-still}
+use Rattle.ace_sysck.proofs.Terms.{Ac}
+use Rattle.ace_sysck.proofs.WhatIsHeard.{next, snoop_still}
 use Rattle.ace_sysck.proofs.system.SysCheck.hear_snoop.Goals as goal
 
 pub returns-in-Some : goal.returns-in-Some
@@ -14,4 +14,4 @@ returns-in_default c = λ p addr lines r m.
     let a = c.args in
     let k = a.self.now in
     next k k p lines r (Ac a.port addr a.snoop) m
-    (snoop-still k r a.port addr a.snoop (sym c.read_ac.ensures ∙ c.in_default.is) m.stands m.kept m.few) (λ n past room. room)
+    (snoop_still k r a.port addr a.snoop (sym c.read_ac.ensures ∙ c.in_default.is) m.stands m.kept m.few) (λ n past room. room)

@@ -1,11 +1,5 @@
-use Rattle.std.proofs.Common.{◌≡◌, ◌∙◌, Some, None, option_map, sym, ap, subst}
-use Rattle.std.specs.Option.{option_copied}
-use Rattle.ace_event.specs.declared.event.Channel.TheVariants.{Read}
-use Rattle.ace_event.specs.declared.event.Event.TheVariants.{R}
-use Rattle.ace_model.specs.Accepted.{least_broken}
-use Rattle.ace_model.specs.Transactions.{outstanding}
-use Rattle.ace_portck.specs.Targets.{after, progress_of}
-use Rattle.ace_sysck.specs.Stands.{Stands}
+use Rattle.std.proofs.Common.{◌≡◌, ◌∙◌, None, sym, ap, subst}
+use Rattle.ace_sysck.proofs.Terms.{option_copied, Read, R, least_broken, outstanding, after, Stands}
 use Rattle.ace_sysck.proofs.Steps.{progress_from}
 use Rattle.ace_sysck.proofs.WhatIsHeard.{next, transfer-found, transfer-still}
 use Rattle.ace_sysck.proofs.system.SysCheck.hear_transfer.Goals as goal
@@ -23,9 +17,7 @@ returns-in-Some c = λ resp word lines r m.
     let k = a.self.now in
     let n = c.complete_transaction.new.self in
     let h = r.header in
-    let served : option_map (progress_of h r.past) (outstanding h r.past a.port Read a.id) ≡ Some c.in-Some.x.now =
-    sym (c.outstanding.ensures r m.ports) ∙ ap option_copied c.in-Some.is in
-    let out = progress_from h r.past (outstanding h r.past a.port Read a.id) c.in-Some.x.now served in
+    let out = progress_from h r.past (outstanding h r.past a.port Read a.id) c.in-Some.x.now (sym (c.outstanding.ensures r m.ports) ∙ ap option_copied c.in-Some.is) in
     next k n a.ports.now lines r (R a.port a.id resp a.last word) m
     (subst (λ b. least_broken h r.past (R a.port a.id resp b word) ≡ None → Stands n (after r (R a.port a.id resp b word))) (sym c.if-not-last.false)
     (λ fine. c.complete_transaction.ensures.beat r a.port a.id resp word m.stands out fine m.few) m.kept)

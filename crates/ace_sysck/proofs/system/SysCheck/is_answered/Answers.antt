@@ -1,7 +1,5 @@
 use Rattle.std.proofs.Common.{◌||◌, not, true, sym, ap, ◌∙◌}
-use Rattle.ace_model.proofs.Terms.{Header, R, implies, list_all, ports_below, is_other_ace}
-use Rattle.ace_sysck.specs.Messages.{is_at}
-use Rattle.ace_sysck.specs.Inboxes.{awaits}
+use Rattle.ace_sysck.proofs.Terms.{Header, R, implies, list_all, ports_below, is_other_ace, is_at, awaits}
 use Rattle.ace_sysck.proofs.EventLaws.{responds-at}
 use Rattle.ace_sysck.proofs.Forwarding.InboxRules.{answered_by_all-is}
 use Rattle.ace_sysck.proofs.system.SysCheck.is_answered.Goals as goal
