@@ -1,40 +1,20 @@
 -- What an AR or AW asks of each share, and what one without a line leaves of the lines.
-use Rattle.std.proofs.Common.{◌≡◌, ◌≤◌, ◌&&◌, ◌||◌, ℕ, Bool, true, false, not, if◌then◌else◌, nat_le, Option, Some, None, length, refl, sym, ap, subst, ◌∙◌, arith}
-use Rattle.ace_codes.specs.Reads.{ar_kind_of}
-use Rattle.ace_codes.specs.Writes.{aw_kind_of}
-use Rattle.ace_codes.specs.declared.kind.ArKind.{ArKind}
+use Rattle.std.proofs.Common.{◌≡◌, ◌<◌, ◌-◌, ◌^◌, ◌≤◌, ◌&&◌, ◌||◌, ℕ, Bool, true, false, not, if◌then◌else◌, nat_le, Option, Some, None, length, refl, sym, ap, subst, ◌∙◌, arith}
+use Rattle.ace_check.proofs.Terms.{IsAccepted, IssuesHalf, Shares, PortCheck, SysCheck, SharesTell, Recording, MayApply, Stands, IsRoomy, after, IsHeard, Fine, ar_kind_of, aw_kind_of, ArKind, AwKind, Write, Event, Ac, Ar, Aw, Header, Transaction, least_broken, least_of, is_no_snoop, k1, k2, k3, k4, k5, k7, k9, k10, may_issue_read, may_issue_write, is_barrier_half, is_line_read, is_line_write, is_no_snoop_read, is_no_snoop_write, may_be_exclusive, is_known, known_lines, k38, lesser, port_rules, line_rules, system_rules, Trace, implies, is_some_and, option_filter, is_line, issued, line_in, goes_over}
 use Rattle.ace_codes.specs.declared.kind.ArKind.TheVariants as read
-use Rattle.ace_codes.specs.declared.kind.AwKind.{AwKind}
 use Rattle.ace_codes.specs.declared.kind.AwKind.TheVariants as write
-use Rattle.ace_event.specs.declared.event.Channel.TheVariants.{Write}
-use Rattle.ace_event.specs.declared.event.Event.{Event}
-use Rattle.ace_event.specs.declared.event.Event.TheVariants.{Ac, Ar, Aw}
-use Rattle.ace_event.specs.declared.header.Header.{Header}
-use Rattle.ace_model.specs.declared.transactions.Transaction.{Transaction}
-use Rattle.ace_model.specs.Accepted.{least_broken, least_of}
-use Rattle.ace_model.specs.AddressRules.{is_no_snoop, k1, k2, k3, k4, k5, k7, k9, k10, may_issue_read, may_issue_write}
-use Rattle.ace_model.specs.Barriers.{is_barrier_half}
-use Rattle.ace_model.specs.Kinds.{is_line_read, is_line_write, is_no_snoop_read, is_no_snoop_write, may_be_exclusive}
-use Rattle.ace_model.specs.Lines.{is_known, known_lines}
-use Rattle.ace_model.specs.OrderRules.{k38}
-use Rattle.ace_model.specs.Shares.{lesser, port_rules, line_rules, system_rules}
-use Rattle.ace_model.specs.Trace.{Trace, implies, is_some_and, option_filter}
-use Rattle.ace_model.specs.Transactions.{is_line, issued}
 use Rattle.ace_model.proofs.General.Options.{Some-injective}
 use Rattle.ace_model.proofs.Trace.Outstanding.{write_issued}
-use Rattle.ace_portck.specs.Targets.{line_in}
 use Rattle.ace_portck.proofs.BarrierAddresses.{read_half-kind, write_half-kind}
 use Rattle.ace_portck.proofs.ReadAddresses.{read_of}
-use Rattle.ace_check.specs.Run.{goes_over}
+use Rattle.ace_lineck.proofs.AllLines.{unchanged}
+use Rattle.ace_model.proofs.Rules.Keeps.{accepted_keeps}
+use Rattle.ace_sysck.specs.Stands as system
 use Rattle.ace_check.proofs.Steps.{least_with}
-use Rattle.ace_check.proofs.WhatComes.{of-two, ports-first}
+use Rattle.ace_check.proofs.WhatComes.{heard-by, lesser-none, of-two, ports-first}
 
 abbrev write_of : ℕ → ℕ → ℕ → ℕ → ℕ → ℕ → ℕ → Transaction
 write_of place p i addr snoop dom bar = record { place = place; port = p; chan = Write; id = i; addr = addr; snoop = snoop; dom = dom; bar = bar; lock = false }
-
-lesser-none : (o : Option ℕ) → lesser o None ≡ o
-lesser-none None = refl
-lesser-none (Some k) = refl
 
 -- where the system says nothing, the lesser of the rules about its port and its line is the least
 pub lesser-of-two : (h : Header) (past : Trace) (e : Event) (a b : Option ℕ) → a ≡ least_of port_rules h past e → b ≡ least_of line_rules h past e
@@ -72,10 +52,9 @@ write-unshared past p i addr snoop dom bar k kind = ap (λ o. is_some_and o is_n
 
 -- ---- one without a line ----
 
--- by its codes
-pub read-off_line : (place p i addr snoop dom bar : ℕ) (lock : Bool) (k : ArKind) → ar_kind_of snoop dom bar ≡ Some k → is_line_read k ≡ false
-    → is_line (read_of place p i addr snoop dom bar lock) ≡ false
-read-off_line place p i addr snoop dom bar lock k kind off = rw (kind, off) refl
+-- it names none too many
+lineless-over : (past : Trace) (e : Event) (x : Transaction) → issued (length past) e ≡ Some x → is_line x ≡ false → goes_over past e ≡ false
+lineless-over past e x new off = rw (new, off) refl
 
 -- what is so of ARs and AWs is so of each event that issues a transaction
 each-issue : (P : Event → Transaction → Type 0) (past : Trace)
@@ -96,10 +75,6 @@ lineless-keeps h past =
 pub lineless-off : (h : Header) (past : Trace) (e : Event) (x : Transaction) → issued (length past) e ≡ Some x → is_line x ≡ false → line_in h past e ≡ None
 lineless-off h past =
     each-issue (λ e x. is_line x ≡ false → line_in h past e ≡ None) past (λ p i addr snoop dom bar lock off. rw off refl) (λ p i addr snoop dom bar off. rw off refl)
-
--- it is no AC
-pub issue-no_snoop : (past : Trace) (e : Event) (x : Transaction) → issued (length past) e ≡ Some x → (p addr snoop : ℕ) → e ≡ Ac p addr snoop → ⊥
-issue-no_snoop past e x new p addr snoop same = let bad : None ≡ Some x = sym (ap (issued (length past)) same) ∙ new in cc
 
 line-exclusive : (k : ArKind) → is_line_read k ≡ false → may_be_exclusive k ≡ false
 line-exclusive read.Barrier off = refl
@@ -134,6 +109,26 @@ half-off past =
     each-issue (λ e x. is_barrier_half x ≡ true → is_line x ≡ false) past
     (λ p i addr snoop dom bar lock half. let kind = read_half-kind (length past) p i addr snoop dom bar lock half in rw kind refl)
     (λ p i addr snoop dom bar half. let kind = write_half-kind past p i addr snoop dom bar half in rw kind refl)
+
+-- half of a barrier
+pub half-issued : (h : Header) (past : Trace) (e : Event) (x : Transaction) → issued (length past) e ≡ Some x → is_barrier_half x ≡ true → IsAccepted h past
+    → least_broken h past e ≡ None → IssuesHalf past e x
+half-issued h past e x new half accepted fine =
+    record { issues = new; half = half; unlocked = lineless-unlocked h past e x new (half-off past e x new half) (accepted_keeps h past e (accepted, fine)).rule_7 }
+
+-- it leaves the lines as they are
+pub heard-lineless : (s : Shares) (p : PortCheck) (y : SysCheck) (e : Event) → ((h : Header) (past : Trace) → SharesTell s h past → None ≡ least_broken h past e)
+    → ((r : Recording) → MayApply s.ports r e → Stands p (after r e)) → ((n : ℕ) → IsRoomy n s.ports → IsRoomy n p) → ((q addr snoop : ℕ) → e ≡ Ac q addr snoop → ⊥)
+    → ((r : Recording) → SharesTell s r.header r.past → least_broken r.header r.past e ≡ None → length r.past < 2 ^ 64 - 1
+    → (x : Transaction) × (issued (length r.past) e ≡ Some x) × (is_line x ≡ false) × system.Stands y (after r e))
+    → ((past : Trace) → system.IsRoomy 4096 past s.system → system.IsRoomy 4096 past y) → IsHeard s e (record { ports = p; lines = s.lines; system = y }) Fine
+heard-lineless s p y e least hear room other tells system =
+    heard-by s (record { ports = p; lines = s.lines; system = y }) e least hear room other
+    (λ r tell fine few.
+    let t = tells r tell fine few in
+    let none = lineless-off r.header r.past e t.0 t.1 t.2 in
+    (lineless-over r.past e t.0 t.1 t.2, unchanged s.lines r e tell.lines fine none, t.3))
+    (λ past roomy. roomy) system
 
 -- ---- which rules the ports may name of it ----
 
@@ -232,10 +227,6 @@ left-write (Some k) test none some = cc
 pub lineless_aw-kind : (h : Header) (past : Trace) (p i addr snoop dom bar : ℕ) → option_filter is_line_write (aw_kind_of snoop dom bar) ≡ None
     → k2 h past (Aw p i addr snoop dom bar) ≡ true → aw_kind_of snoop dom bar ≡ Some write.Barrier
 lineless_aw-kind h past p i addr snoop dom bar none known = left-write (aw_kind_of snoop dom bar) (may_issue_write h p) none known
-
-pub read-half : (place p i addr snoop dom bar : ℕ) (lock : Bool) → ar_kind_of snoop dom bar ≡ Some read.Barrier
-    → is_barrier_half (read_of place p i addr snoop dom bar lock) ≡ true
-read-half place p i addr snoop dom bar lock kind = rw kind refl
 
 pub write-half : (place p i addr snoop dom bar : ℕ) → aw_kind_of snoop dom bar ≡ Some write.Barrier → is_barrier_half (write_of place p i addr snoop dom bar) ≡ true
 write-half place p i addr snoop dom bar kind = rw kind refl

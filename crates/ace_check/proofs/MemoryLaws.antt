@@ -1,12 +1,7 @@
 -- The M of an outstanding transaction: only the rules of its line are left.
 use Rattle.std.proofs.Common.{◌≡◌, ◌<◌, ℕ, true, Option, Some, is_none, refl, sym}
 use Rattle.std.proofs.lemmas.Bool.{lt-ltb}
-use Rattle.ace_event.specs.declared.line.Line.{Line}
-use Rattle.ace_model.specs.Accepted.{IsAccepted, least_broken, least_of}
-use Rattle.ace_model.specs.AddressRules.{k1}
-use Rattle.ace_model.specs.Shares.{line_rules, port_rules}
-use Rattle.ace_model.specs.declared.transactions.Transaction.{Transaction}
-use Rattle.ace_model.proofs.Terms.{Channel, M, Header, Trace, outstanding}
+use Rattle.ace_check.proofs.Terms.{Line, IsAccepted, least_broken, least_of, k1, line_rules, port_rules, Transaction, Channel, M, Header, Trace, outstanding}
 use Rattle.ace_model.proofs.General.Options.{none_is}
 use Rattle.ace_check.proofs.WhatComes.{lines-decide}
 use Rattle.ace_check.proofs.OutstandingLaws.{outstanding_within}

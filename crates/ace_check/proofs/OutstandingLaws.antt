@@ -1,10 +1,7 @@
 -- An outstanding transaction is one of a port of the header, so that its G keeps the rules of the ports.
 use Rattle.std.proofs.Common.{◌≡◌, ◌<◌, ℕ, [], ◌∷◌, Some, None, refl, subst, inl, inr}
 use Rattle.std.proofs.lemmas.Bool.{lt-ltb}
-use Rattle.ace_model.specs.Accepted.{IsAccepted, least_of}
-use Rattle.ace_model.specs.Shares.{port_rules}
-use Rattle.ace_model.specs.declared.transactions.Transaction.{Transaction}
-use Rattle.ace_model.proofs.Terms.{Channel, G, Header, Trace, outstanding}
+use Rattle.ace_check.proofs.Terms.{IsAccepted, least_of, port_rules, Transaction, Channel, G, Header, Trace, outstanding}
 use Rattle.ace_model.proofs.Trace.Growth.{IsIssued, issued-cases, named-issued}
 use Rattle.ace_model.proofs.Trace.Issued.{outstanding-name, outstanding-named}
 use Rattle.ace_portck.proofs.AllPorts.{port_below}

@@ -1,46 +1,16 @@
 -- Which rules an R may break, and what the next transfer of an outstanding read is and leaves.
-use Rattle.std.proofs.Common.{◌≡◌, ◌<◌, ◌≤◌, ◌-◌, ◌^◌, ◌+◌, ◌==◌, ◌||◌, ◌∷◌, ℕ, Bool, true, false, nat_lt, if◌then◌else◌, Option, Some, None, is_none, length, arith, refl, sym, ap, subst, ◌∙◌}
+use Rattle.std.proofs.Common.{◌≡◌, ◌<◌, ◌≤◌, ◌-◌, ◌^◌, ◌+◌, ◌==◌, ◌||◌, ◌∷◌, ℕ, Bool, true, false, nat_lt, Option, Some, None, is_none, length, arith, refl, sym, ap, subst, ◌∙◌}
 use Rattle.std.proofs.lemmas.Bool.{and_parts, ltb-true}
-use Rattle.ace_codes.specs.Reads.{ar_kind_of}
-use Rattle.ace_codes.specs.declared.kind.ArKind.{ArKind}
+use Rattle.ace_check.proofs.Terms.{ar_kind_of, ArKind, Read, R, Header, same_test, Transaction, least_broken, least_of, k1, k2, is_barrier_half, beats_of, is_line_read, is_message_part, k34, k37, k19, k20, k21, k18_line, k18_transfer, line_rules, port_rules, system_rules, Trace, is_line, is_read, outstanding, read_kind, write_kind, Progress, SysCheck, IsNextTransfer}
 use Rattle.ace_codes.specs.declared.kind.ArKind.TheVariants as read
-use Rattle.ace_event.specs.declared.event.Channel.TheVariants.{Read}
-use Rattle.ace_event.specs.declared.event.Event.TheVariants.{R}
-use Rattle.ace_event.specs.declared.header.Header.{Header}
-use Rattle.ace_tables.specs.Answers.{same_test}
-use Rattle.ace_model.specs.declared.transactions.Transaction.{Transaction}
-use Rattle.ace_model.specs.Accepted.{least_broken, least_of}
-use Rattle.ace_model.specs.AddressRules.{k1, k2}
-use Rattle.ace_model.specs.Barriers.{is_barrier_half}
-use Rattle.ace_model.specs.Kinds.{beats_of, is_line_read}
-use Rattle.ace_model.specs.Messages.{is_message_part}
-use Rattle.ace_model.specs.OrderRules.{k34, k37}
-use Rattle.ace_model.specs.ReadRules.{k19, k20, k21}
-use Rattle.ace_model.specs.Shares.{k18_line, k18_transfer, line_rules, port_rules, system_rules}
-use Rattle.ace_model.specs.Trace.{Trace}
-use Rattle.ace_model.specs.Transactions.{is_line, is_read, outstanding, read_kind, write_kind}
 use Rattle.ace_portck.specs.Reads.{is_next_beat}
-use Rattle.ace_portck.specs.declared.target.Progress.{Progress}
 use Rattle.ace_portck.proofs.LineReads.{beat_rules, on_reads}
 use Rattle.ace_sysck.specs.Stands as system
-use Rattle.ace_sysck.specs.declared.system.SysCheck.{SysCheck}
 use Rattle.ace_sysck.proofs.ByKind.LineResponses.{system_unanswered}
 use Rattle.ace_sysck.proofs.ByKind.Responses.{other-read}
 use Rattle.ace_sysck.proofs.Steps.{progress_from}
-use Rattle.ace_check.specs.ReadData.{IsNextTransfer}
 use Rattle.ace_check.proofs.Steps.{k1_kept, least_with}
-use Rattle.ace_check.proofs.WhatComes.{lines-next, ports-first}
-
--- the number of the first of three rules that isn't kept
-of-three : (i j n : ℕ) (a b d : Bool) (k : ℕ) → i ≤ j → j ≤ n → Some k ≡ (if a then (if b then (if d then None else Some n) else Some j) else Some i)
-    → (i ≤ k) × (k ≤ n)
-of-three i j n a b d k low high = by a b d
-  where
-    by : (a b d : Bool) → Some k ≡ (if a then (if b then (if d then None else Some n) else Some j) else Some i) → (i ≤ k) × (k ≤ n)
-    by true true true is = let bad : Some k ≡ None = is in cc
-    by true true false is = let same : k ≡ n = cc in (omega (arith, low, high, same), omega (arith, same))
-    by true false d is = let same : k ≡ j = cc in (omega (arith, low, same), omega (arith, high, same))
-    by false b d is = let same : k ≡ i = cc in (omega (arith, same), omega (arith, low, high, same))
+use Rattle.ace_check.proofs.WhatComes.{lines-next, of-three, ports-first}
 
 module _ (h : Header) (past : Trace) (p id resp : ℕ) (last : Bool) (word : ℕ) where
   -- a rule about the system is none before K21

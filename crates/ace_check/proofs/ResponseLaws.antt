@@ -1,29 +1,16 @@
 -- What a B asks of each share.
 use Rattle.std.proofs.Common.{◌≡◌, ℕ, true, if◌then◌else◌, Option, Some, None, is_some, arith, refl, sym}
-use Rattle.ace_codes.specs.declared.kind.AwKind.{AwKind}
+use Rattle.ace_check.proofs.Terms.{AwKind, Write, B, Header, Transaction, IsAccepted, least_broken, least_of, k1, k2, is_barrier_half, is_line_write, is_write_barrier, k34, k26_memory, k26_response, port_rules, Trace, outstanding, write_kind, line_write}
 use Rattle.ace_codes.specs.declared.kind.AwKind.TheVariants as write
-use Rattle.ace_event.specs.declared.event.Channel.TheVariants.{Write}
-use Rattle.ace_event.specs.declared.event.Event.TheVariants.{B}
-use Rattle.ace_event.specs.declared.header.Header.{Header}
-use Rattle.ace_model.specs.declared.transactions.Transaction.{Transaction}
-use Rattle.ace_model.specs.Accepted.{IsAccepted, least_broken, least_of}
-use Rattle.ace_model.specs.AddressRules.{k1, k2}
-use Rattle.ace_model.specs.Barriers.{is_barrier_half}
-use Rattle.ace_model.specs.Kinds.{is_line_write, is_write_barrier}
-use Rattle.ace_model.specs.OrderRules.{k34}
-use Rattle.ace_model.specs.Shares.{k26_memory, k26_response, port_rules}
-use Rattle.ace_model.specs.Trace.{Trace}
-use Rattle.ace_model.specs.Transactions.{outstanding, write_kind}
 use Rattle.ace_model.proofs.Trace.Issued.{outstanding-name}
 use Rattle.ace_model.proofs.Trace.IssuedTransactions.{outstanding-write}
-use Rattle.ace_portck.specs.LineWrites.{line_write}
 use Rattle.ace_check.proofs.WhatComes.{of-one, of-three, ports-first}
 
 -- a rule about its port that a B breaks is the least
 pub ports-break : (h : Header) (past : Trace) (p i resp : ℕ) (k : ℕ) → Some k ≡ least_of port_rules h past (B p i resp) → least_broken h past (B p i resp) ≡ Some k
 ports-break h past p i resp k ports =
     let e = B p i resp in
-    let most = of-three 1 2 26 (k1 h past e) (k2 h past e) (k26_response h past e) k (omega arith) (omega arith) ports in
+    let most = (of-three 1 2 26 (k1 h past e) (k2 h past e) (k26_response h past e) k (omega arith) (omega arith) ports).1 in
     ports-first h past e k ports
     (λ m is. let same = of-one 26 (k26_memory h past e) m (sym is) in omega (arith, most, same))
     (λ m is. let same = of-one 34 (k34 h past e) m (sym is) in omega (arith, most, same))

@@ -1,17 +1,9 @@
 -- Shares that have room for a run have room for each event that may be its next.
 use Rattle.std.proofs.Common.{◌≡◌, ℕ, ◌<◌, ◌≤◌, ◌-◌, ◌^◌, ◌∷◌, None, length, slice_index_or, subst}
 use Rattle.std.proofs.lemmas.Option.{get_or_from_slice_get, slice_get_within}
-use Rattle.ace_event.specs.declared.event.Event.{Event}
-use Rattle.ace_event.specs.declared.event.Event.TheVariants.{Ac}
-use Rattle.ace_event.specs.declared.header.Header.{Header}
-use Rattle.ace_model.specs.Accepted.{least_broken}
-use Rattle.ace_model.specs.Snoops.{snoops_of}
-use Rattle.ace_model.specs.Trace.{Trace}
-use Rattle.ace_portck.specs.declared.port.PortRecord.{PortRecord}
-use Rattle.ace_portck.specs.declared.ports.PortCheck.{PortCheck}
+use Rattle.ace_check.proofs.Terms.{Event, Ac, Header, least_broken, snoops_of, Trace, PortRecord, PortCheck, HasRoom, IsRoomy, MayApply, PortsStand, Stands, record_at}
 use Rattle.ace_portck.specs.Port as port
 use Rattle.ace_portck.specs.Snoops as snoops
-use Rattle.ace_portck.specs.Stands.{HasRoom, IsRoomy, MayApply, PortsStand, Stands, record_at}
 use Rattle.ace_portck.proofs.AllPorts.{has_room}
 use Rattle.ace_portck.proofs.Rooms.{room-for-all}
 

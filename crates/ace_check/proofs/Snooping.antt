@@ -1,19 +1,10 @@
 -- The snoops of an accepted trace, and which rules an AC or CR breaks.
-use Rattle.std.proofs.Common.{◌≡◌, [], ◌∷◌, ℕ, Bool, true, false, Some, None, length, slice_get, is_some, ap, sym, subst, ◌∙◌, arith, nat_eq, inl, inr}
-use Rattle.ace_codes.specs.Snoops.{ac_kind_of}
-use Rattle.ace_codes.specs.declared.kind.SnoopKind.{SnoopKind}
-use Rattle.ace_model.specs.declared.snoops.Snoop.{Snoop}
-use Rattle.ace_model.specs.Accepted.{least_broken, least_of}
-use Rattle.ace_model.specs.AddressRules.{k1, k2, k3}
-use Rattle.ace_model.specs.Kinds.{is_line_snoop}
-use Rattle.ace_model.specs.OrderRules.{k36, k39}
-use Rattle.ace_model.specs.Shares.{port_rules}
-use Rattle.ace_model.specs.SnoopRules.{k13}
-use Rattle.ace_model.proofs.Terms.{Header, Trace, Event, Ac, IsAccepted, answered, answers, is_some_and, snoop_at, snoops_of, snoops_a_line}
+use Rattle.std.proofs.Common.{◌≡◌, [], ◌∷◌, ℕ, Bool, true, false, Some, None, length, slice_get, is_some, if◌then◌else◌, ap, sym, subst, ◌∙◌, nat_eq, inl, inr}
+use Rattle.ace_check.proofs.Terms.{ac_kind_of, SnoopKind, Snoop, least_broken, least_of, k1, k2, k3, is_line_snoop, port_rules, system_rules, k13, Header, Trace, Event, Ac, IsAccepted, answered, answers, is_some_and, snoop_at, snoops_of, snoops_a_line}
 use Rattle.ace_model.proofs.General.Lists.{slice_get-more}
 use Rattle.ace_model.proofs.General.Options.{some_if-is}
 use Rattle.ace_model.proofs.Rules.Keeps.{accepted_keeps, kept}
-use Rattle.ace_check.proofs.WhatComes.{of-one, of-three, of-two, ports-first}
+use Rattle.ace_check.proofs.WhatComes.{first-3}
 
 -- a snoop of the kind is of a line where the kind is
 pub line-by-kind : (code : ℕ) (k : SnoopKind) (b : Bool) → ac_kind_of code ≡ Some k → is_line_snoop k ≡ b → snoops_a_line code ≡ b
@@ -41,13 +32,10 @@ answered-kind h past p s a there = snoop-kind h past a p (answers past p) s ther
 
 -- a rule about its port that an AC breaks is the least
 pub ac-port-first : (h : Header) (past : Trace) (p addr code k : ℕ) → Some k ≡ least_of port_rules h past (Ac p addr code)
-    → least_broken h past (Ac p addr code) ≡ Some k
+    → Some k ≡ least_broken h past (Ac p addr code)
 ac-port-first h past p addr code k ports =
     let e = Ac p addr code in
-    let at_most = of-three 1 2 3 (k1 h past e) (k2 h past e) (k3 h past e) k (omega arith) (omega arith) ports in
-    ports-first h past e k ports
-    (λ m is. let same = of-one 13 (k13 h past e) m (sym is) in omega (arith, at_most, same))
-    (λ m is. let least = (of-two 36 39 (k36 h past e) (k39 h past e) m (omega arith) (sym is)).0 in omega (arith, at_most, least))
+    first-3 1 2 3 k (k1 h past e) (k2 h past e) (k3 h past e) (if k13 h past e then least_of system_rules h past e else Some 13) ports
 
 -- one that keeps those has a kind
 pub ac-has-kind : (h : Header) (past : Trace) (p addr code : ℕ) → None ≡ least_of port_rules h past (Ac p addr code) → ac_kind_of code ≡ None → ⊥

@@ -1,30 +1,14 @@
 -- What the parts of a checker say together.
-use Rattle.std.proofs.Common.{◌≡◌, ◌==◌, ℕ, Bool, true, false, not, ◌&&◌, nat_le, if◌then◌else◌, Option, Some, None, length, is_some, is_none, option_map, Result, Ok, Err, is_err, IsOk, OnOk, OnErr, refl, sym, ap, subst, ◌∙◌, inl, inr}
-use Rattle.std.proofs.lemmas.Bool.{cases_Bool, eqb-true}
-use Rattle.std.specs.List.{AllByRecursion}
-use Rattle.ace_event.specs.Range.{FitsFields}
-use Rattle.ace_event.specs.declared.event.Channel.{Channel}
-use Rattle.ace_event.specs.declared.event.Channel.TheVariants.{Read, Write}
-use Rattle.ace_event.specs.declared.event.Event.{Event}
-use Rattle.ace_event.specs.declared.event.Event.TheVariants.{Ar, Aw}
-use Rattle.ace_event.specs.declared.header.Header.{Header}
-use Rattle.ace_model.specs.declared.transactions.Transaction.{Transaction}
-use Rattle.ace_model.specs.Trace.{Trace, is_some_and}
-use Rattle.ace_model.specs.Transactions.{is_line, outstanding}
-use Rattle.ace_model.specs.Accepted.{IsAccepted, least_broken, least_of}
-use Rattle.ace_model.specs.AddressRules.{k1}
-use Rattle.ace_model.specs.Exclusives.{has_failed}
-use Rattle.ace_model.specs.Grants.{granted}
-use Rattle.ace_model.specs.Lines.{is_known, known_lines, has_failed_on, names_new_line}
-use Rattle.ace_model.specs.Shares.{lesser, port_rules, line_rules, system_rules}
+use Rattle.std.proofs.Common.{◌≡◌, ◌==◌, ℕ, Bool, true, false, not, Option, Some, None, is_some, is_none, option_map, Result, Ok, Err, is_err, IsOk, IfOk, OnOk, OnErr, refl, sym, ap, subst, ◌∙◌, inl, inr}
+use Rattle.std.proofs.lemmas.Bool.{cases_Bool}
+use Rattle.ace_check.proofs.Terms.{found_unless, AllByRecursion, FitsFields, Channel, Write, Event, Header, Transaction, Trace, is_some_and, outstanding, IsAccepted, least_broken, least_of, k1, has_failed, granted, has_failed_on, lesser, port_rules, line_rules, system_rules, IsSound}
+use Rattle.std.specs.Result.{result_err}
 use Rattle.ace_model.proofs.Rules.Shares.{least_of_shares}
 use Rattle.ace_model.proofs.Coherence.{accepted_coherent}
 use Rattle.ace_model.proofs.Barriers.Law.{accepted_barriers_order}
 use Rattle.ace_model.proofs.Exclusives.Law.{accepted_exclusive_holds}
 use Rattle.ace_model.proofs.Dvm.Law.{accepted_dvm_holds}
 use Rattle.ace_model.proofs.Holders.Law.{accepted_holds}
-use Rattle.ace_portck.specs.Targets.{line_in}
-use Rattle.ace_check.specs.Run.{IsSound, goes_over}
 
 -- an accepted trace whose events fit their fields is sound
 pub accepted_sound : (h : Header) (past : Trace) → IsAccepted h past → AllByRecursion FitsFields past → IsSound h past
@@ -34,25 +18,6 @@ accepted_sound h past a fits = record {
   barrier = accepted_barriers_order h past a;
   dvm = accepted_dvm_holds h past a;
 }
-
-begins_none : (x : Transaction) → (if is_line x then Some x.addr else None) ≡ None → is_line x ≡ false
-begins_none x is = by (is_line x) refl
-  where
-    by : (b : Bool) → is_line x ≡ b → is_line x ≡ false
-    by true t = let bad : Some x.addr ≡ None = rw t at is in cc
-    by false f = f
-
-abbrev new_read : Trace → ℕ → ℕ → ℕ → ℕ → ℕ → ℕ → Bool → Transaction
-new_read past p i addr snoop dom bar lock = record { place = length past; port = p; chan = Read; id = i; addr = addr; snoop = snoop; dom = dom; bar = bar; lock = lock }
-
-abbrev new_write : Trace → ℕ → ℕ → ℕ → ℕ → ℕ → ℕ → Transaction
-new_write past p i addr snoop dom bar = record { place = length past; port = p; chan = Write; id = i; addr = addr; snoop = snoop; dom = dom; bar = bar; lock = false }
-
--- any other event names none
-pub over_of_none : (h : Header) (past : Trace) (e : Event) → line_in h past e ≡ None → goes_over past e ≡ false
-over_of_none h past (Ar p i addr snoop dom bar lock) is = let no = begins_none (new_read past p i addr snoop dom bar lock) is in rw no refl
-over_of_none h past (Aw p i addr snoop dom bar) is = let no = begins_none (new_write past p i addr snoop dom bar) is in rw no refl
-over_of_none h past _ is = refl
 
 -- the name of a transaction
 abbrev pub name_of : Transaction → ℕ × Channel × ℕ
@@ -114,10 +79,6 @@ from_ok (Err e) b p = cc
 abbrev is_first : Option ℕ → Bool
 is_first rule = is_some_and rule (λ k. k == 1)
 
-pub first_is : (rule : Option ℕ) → is_first rule ≡ true → rule ≡ Some 1
-first_is None t = cc
-first_is (Some k) t = ap Some (eqb-true k 1 t)
-
 -- where the rule of the ports isn't K1, K1 is kept
 pub k1_kept : (h : Header) (past : Trace) (e : Event) (rule : Option ℕ) → rule ≡ least_of port_rules h past e → is_first rule ≡ false → k1 h past e ≡ true
 k1_kept h past e rule is f =
@@ -143,3 +104,12 @@ none_from_some (Some x) false is = refl
 pub some-mapped : {A B : Type 0} → (o : Option A) (f : A → B) → is_some o ≡ is_some (option_map f o)
 some-mapped None f = refl
 some-mapped (Some x) f = refl
+
+-- what is found where no rule is broken, and which rule it is else
+pub found-rule : {A : Type 0} → (x : A) (rule : Option ℕ) (r : Result A ℕ) → r ≡ found_unless x rule → result_err r ≡ rule
+found-rule x None r is = ap result_err is
+found-rule x (Some k) r is = ap result_err is
+
+pub found-holds : {A : Type 0} → (P : A → Type 0) (x : A) (rule : Option ℕ) (r : Result A ℕ) → r ≡ found_unless x rule → P x → IfOk r P
+found-holds P x None r is holds = subst (λ v. IfOk v P) (sym is) holds
+found-holds P x (Some k) r is holds = subst (λ v. IfOk v P) (sym is) tt

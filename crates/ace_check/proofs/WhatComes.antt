@@ -1,27 +1,12 @@
 -- What comes of an event that the shares hear.
-use Rattle.std.proofs.Common.{◌≡◌, ◌<◌, ◌≤◌, ◌-◌, ◌^◌, ◌∷◌, ◌&&◌, ℕ, Bool, true, false, if◌then◌else◌, nat_le, nat_lt, Option, Some, None, length, option_map, refl, sym, ◌∙◌, arith, inl, inr}
+use Rattle.std.proofs.Common.{◌≡◌, ◌<◌, ◌≤◌, ◌-◌, ◌^◌, ◌∷◌, ◌&&◌, ℕ, Bool, true, false, if◌then◌else◌, nat_le, nat_lt, Option, Some, None, length, option_map, unwrap_or, refl, sym, subst, ◌∙◌, arith, inl, inr}
 use Rattle.std.proofs.lemmas.Bool.{and_parts, cases_Bool, leb-true, ltb-true}
-use Rattle.ace_event.specs.declared.event.Event.{Event}
-use Rattle.ace_event.specs.declared.header.Header.{Header}
-use Rattle.ace_model.specs.declared.transactions.Transaction.{Transaction}
-use Rattle.ace_model.specs.Accepted.{least_broken, least_of}
-use Rattle.ace_model.specs.Lines.{add_line, known_lines, names_new_line}
-use Rattle.ace_model.specs.Shares.{lesser, port_rules, line_rules, system_rules}
-use Rattle.ace_model.specs.Trace.{Trace, is_some_and}
-use Rattle.ace_model.specs.Transactions.{issued}
-use Rattle.ace_portck.specs.Targets.{progress_of}
+use Rattle.ace_check.proofs.Terms.{Event, Ac, Ar, Aw, Header, Recording, after, Transaction, least_broken, least_of, add_line, known_lines, names_new_line, lesser, port_rules, line_rules, system_rules, Trace, is_some_and, issued, progress_of, LineCheck, SysCheck, IsHeard, goes_over, SharesTell, Fine, Broken, TooManyLines, Shares}
 use Rattle.ace_portck.proofs.LineMaps.{room-stays}
 use Rattle.ace_portck.specs.Stands as ports
 use Rattle.ace_lineck.specs.Stands as lines
-use Rattle.ace_lineck.specs.declared.lines.LineCheck.{LineCheck}
 use Rattle.ace_sysck.specs.Stands as system
-use Rattle.ace_sysck.specs.declared.system.SysCheck.{SysCheck}
-use Rattle.ace_check.specs.Heard.{IsHeard}
-use Rattle.ace_check.specs.Run.{goes_over}
-use Rattle.ace_check.specs.Shares.{SharesTell}
-use Rattle.ace_check.specs.declared.heard.Heard.{Heard}
-use Rattle.ace_check.specs.declared.heard.Heard.TheVariants.{Fine, Broken, TooManyLines}
-use Rattle.ace_check.specs.declared.shares.Shares.{Shares}
+use Rattle.ace_check.proofs.Rooms.{may-apply}
 use Rattle.ace_check.proofs.Steps.{least_with}
 
 -- where no progress of a transaction is found, it isn't outstanding
@@ -42,12 +27,25 @@ lines-fit past e = by (issued (length past) e)
         let full = leb-true 4096 (length (known_lines past)) parts.1 in
         omega (arith, more, full)
 
+-- the event is neither an AR or AW nor an AC
+abbrev pub is_plain : Event → Bool
+is_plain (Ar p i addr snoop dom bar lock) = false
+is_plain (Aw p i addr snoop dom bar) = false
+is_plain (Ac p addr snoop) = false
+is_plain _ = true
+
+-- it names no line
+plain-over : (past : Trace) (e : Event) → is_plain e ≡ true → goes_over past e ≡ false
+plain-over past (Ar p i addr snoop dom bar lock) plain = cc
+plain-over past (Aw p i addr snoop dom bar) plain = cc
+plain-over past _ plain = refl
+
 module _ (s : Shares) (e : Event) where
   -- an event that breaks a rule, where nothing has changed
-  pub heard-broken : (k : ℕ) → ((h : Header) (past : Trace) → SharesTell s h past → least_broken h past e ≡ Some k) → IsHeard s e s (Broken k)
+  pub heard-broken : (k : ℕ) → ((h : Header) (past : Trace) → SharesTell s h past → Some k ≡ least_broken h past e) → IsHeard s e s (Broken k)
   heard-broken k least = record {
-    comes_to = λ h past tell few. (least h past tell, tell);
-    room = λ h past stand may. let bad : Some k ≡ None = sym (least h past stand.tell) ∙ may.fine in cc;
+    comes_to = λ h past tell few. (sym (least h past tell), tell);
+    room = λ h past stand may. let bad : Some k ≡ None = least h past stand.tell ∙ may.fine in cc;
   }
 
   -- one that breaks none, and names one line too many
@@ -57,7 +55,7 @@ module _ (s : Shares) (e : Event) where
     room = λ h past stand may. absurd (lines-fit past e may.lines (over h past stand.tell).1);
   }
 
-lesser-none : (o : Option ℕ) → lesser o None ≡ o
+pub lesser-none : (o : Option ℕ) → lesser o None ≡ o
 lesser-none None = refl
 lesser-none (Some k) = refl
 
@@ -123,15 +121,36 @@ of-two j n a b k le = by a b
     by true false is = let same : k ≡ n = cc in (omega (arith, le, same), omega (arith, same))
     by false b is = let same : k ≡ j = cc in (omega (arith, same), omega (arith, le, same))
 
--- of three, it is at most the last
-pub of-three : (i j n : ℕ) (a b c : Bool) (k : ℕ) → i ≤ n → j ≤ n → Some k ≡ (if a then (if b then (if c then None else Some n) else Some j) else Some i) → k ≤ n
-of-three i j n a b c k least next is = by a b c is
+-- the number of the first of three rules that isn't kept
+pub of-three : (i j n : ℕ) (a b d : Bool) (k : ℕ) → i ≤ j → j ≤ n → Some k ≡ (if a then (if b then (if d then None else Some n) else Some j) else Some i)
+    → (i ≤ k) × (k ≤ n)
+of-three i j n a b d k low high = by a b d
   where
-    by : (a b c : Bool) → Some k ≡ (if a then (if b then (if c then None else Some n) else Some j) else Some i) → k ≤ n
+    by : (a b d : Bool) → Some k ≡ (if a then (if b then (if d then None else Some n) else Some j) else Some i) → (i ≤ k) × (k ≤ n)
     by true true true is = let bad : Some k ≡ None = is in cc
-    by true true false is = let same : k ≡ n = cc in omega (arith, same)
-    by true false c is = let same : k ≡ j = cc in omega (arith, same, next)
-    by false b c is = let same : k ≡ i = cc in omega (arith, same, least)
+    by true true false is = let same : k ≡ n = cc in (omega (arith, low, high, same), omega (arith, same))
+    by true false d is = let same : k ≡ j = cc in (omega (arith, low, same), omega (arith, high, same))
+    by false b d is = let same : k ≡ i = cc in (omega (arith, same), omega (arith, low, high, same))
+
+-- the first of some rules that isn't kept is the first of all, where no other comes before them
+pub first-1 : (i k : ℕ) (a : Bool) (rest : Option ℕ) → Some k ≡ (if a then None else Some i) → Some k ≡ (if a then rest else Some i)
+first-1 i k true rest is = let bad : Some k ≡ None = is in cc
+first-1 i k false rest is = is
+
+pub first-2 : (i j k : ℕ) (a b : Bool) (rest : Option ℕ) → Some k ≡ (if a then (if b then None else Some j) else Some i)
+    → Some k ≡ (if a then (if b then rest else Some j) else Some i)
+first-2 i j k true b rest is = first-1 j k b rest is
+first-2 i j k false b rest is = is
+
+pub first-3 : (i j n k : ℕ) (a b c : Bool) (rest : Option ℕ) → Some k ≡ (if a then (if b then (if c then None else Some n) else Some j) else Some i)
+    → Some k ≡ (if a then (if b then (if c then rest else Some n) else Some j) else Some i)
+first-3 i j n k true b c rest is = first-2 j n k b c rest is
+first-3 i j n k false b c rest is = is
+
+-- where K1 is kept, the next that isn't
+pub missing-next : (n : ℕ) (a : Bool) (rest rule : Option ℕ) → rule ≡ (if a then None else Some 1) → Some n ≡ rest → Some (unwrap_or rule n) ≡ (if a then rest else Some 1)
+missing-next n true rest rule is next = rw is next
+missing-next n false rest rule is next = rw is refl
 
 -- the room for the lines of a trace is there for any that is longer
 pub lines-roomy : (e : Event) (past : Trace) (s : LineCheck) → lines.IsRoomy 4096 past s → lines.IsRoomy 4096 (e ∷ past) s
@@ -158,3 +177,32 @@ heard-fine s n e tells ports lines system = record {
     },
   );
 }
+
+-- what each share makes of an event that is fine and no AC, the ports by what they hear
+module _ (s n : Shares) (e : Event)
+    (least : (h : Header) (past : Trace) → SharesTell s h past → None ≡ least_broken h past e)
+    (hear : (r : Recording) → ports.MayApply s.ports r e → ports.Stands n.ports (after r e))
+    (room : (snoops : ℕ) → ports.IsRoomy snoops s.ports → ports.IsRoomy snoops n.ports) where
+  pub heard-by : ((p addr snoop : ℕ) → e ≡ Ac p addr snoop → ⊥)
+      → ((r : Recording) → SharesTell s r.header r.past → least_broken r.header r.past e ≡ None → length r.past < 2 ^ 64 - 1
+      → (goes_over r.past e ≡ false) × lines.Stands n.lines (after r e) × system.Stands n.system (after r e))
+      → ((past : Trace) → lines.IsRoomy 4096 past s.lines → lines.IsRoomy 4096 past n.lines)
+      → ((past : Trace) → system.IsRoomy 4096 past s.system → system.IsRoomy 4096 past n.system) → IsHeard s e n Fine
+  heard-by other tells =
+      heard-fine s n e
+      (λ h past tell few.
+      let r : Recording = record { header = h; past = past } in
+      let fine = sym (least h past tell) in
+      let t = tells r tell fine few in
+      (fine, t.0, record { ports = hear r (may-apply s.ports h past e tell.ports fine few other); lines = t.1; system = t.2 }))
+      (room 24576)
+
+  -- one that is no AR or AW either
+  pub heard-plain : is_plain e ≡ true
+      → ((r : Recording) → SharesTell s r.header r.past → least_broken r.header r.past e ≡ None → length r.past < 2 ^ 64 - 1
+      → lines.Stands n.lines (after r e) × system.Stands n.system (after r e))
+      → ((past : Trace) → lines.IsRoomy 4096 past s.lines → lines.IsRoomy 4096 past n.lines)
+      → ((past : Trace) → system.IsRoomy 4096 past s.system → system.IsRoomy 4096 past n.system) → IsHeard s e n Fine
+  heard-plain plain tells =
+      heard-by (λ p addr snoop is. let bad : is_plain (Ac p addr snoop) ≡ true = subst (λ d. is_plain d ≡ true) is plain in cc)
+      (λ r tell fine few. let t = tells r tell fine few in (plain-over r.past e plain, t.0, t.1))

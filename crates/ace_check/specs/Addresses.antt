@@ -1,21 +1,20 @@
--- What is known of an AR or AW that breaks no rule.
-use Rattle.std.specs.Prelude.{◌≡◌, Some, None, length}
+-- What is known of the AR of a read without a line.
+use Rattle.std.specs.Prelude.{ℕ, ◌≡◌, Some, false}
+use Rattle.ace_codes.specs.Reads.{ar_kind_of}
+use Rattle.ace_codes.specs.declared.kind.ArKind.{ArKind}
 use Rattle.ace_event.specs.declared.event.Event.{Event}
 use Rattle.ace_event.specs.declared.event.Event.TheVariants.{Ar}
-use Rattle.ace_event.specs.declared.header.Header.{Header}
+use Rattle.ace_model.specs.Kinds.{is_line_read}
 use Rattle.ace_model.specs.declared.transactions.Transaction.{Transaction}
-use Rattle.ace_model.specs.Accepted.{least_broken}
-use Rattle.ace_model.specs.Trace.{Trace}
-use Rattle.ace_model.specs.Transactions.{issued}
-use Rattle.ace_check.specs.Shares.{SharesTell}
-use Rattle.ace_check.specs.declared.shares.Shares.{Shares}
+use Rattle.ace_model.specs.Transactions.{issued, read_kind}
 
 -- the AR that issues the read
 abbrev pub ar_of : Transaction → Event
 ar_of x = Ar x.port x.id x.addr x.snoop x.dom x.bar x.lock
 
--- after each trace that the shares tell of, the event issues the transaction, and breaks no rule
-abbrev pub MayIssue : Shares → Event → Transaction → Type 0
-MayIssue s e x =
-    (h : Header) (past : Trace) → SharesTell s h past
-    → (issued (length past) e ≡ Some x) × (least_broken h past e ≡ None)
+-- the event after so many issues this read, of this kind, which has no line
+pub record IsLinelessRead (place : ℕ) (e : Event) (x : Transaction) (k : ArKind) : Type 0 where
+  pub issues : issued place e ≡ Some x
+  pub codes : ar_kind_of x.snoop x.dom x.bar ≡ Some k
+  pub kind : read_kind x ≡ Some k
+  pub lineless : is_line_read k ≡ false

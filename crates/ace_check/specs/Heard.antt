@@ -1,5 +1,5 @@
 -- What comes of an event that the shares hear, and what they tell then.
-use Rattle.std.specs.Prelude.{◌≡◌, ◌<◌, ◌-◌, ◌^◌, ◌∷◌, Bool, true, false, Some, None, length}
+use Rattle.std.specs.Prelude.{◌≡◌, ◌<◌, ◌-◌, ◌^◌, ◌∷◌, true, false, Some, None, length}
 use Rattle.ace_event.specs.declared.event.Event.{Event}
 use Rattle.ace_event.specs.declared.header.Header.{Header}
 use Rattle.ace_model.specs.Accepted.{least_broken}
@@ -21,7 +21,8 @@ ComesTo h past e new TooManyLines =
 ComesTo h past e new NoMemory =
     (least_broken h past e ≡ None) × MayLackMemory h past e × SharesTell new h past
 
--- What comes of an event that the shares hear; and each event that may be the next of a run is fine, and leaves room for the next.
+-- What comes of an event that the shares hear; and each event that may be the next of a run is
+-- fine, and leaves room for the next.
 pub record IsHeard (old : Shares) (e : Event) (new : Shares) (what : Heard) : Type 0 where
   pub comes_to : (h : Header) (past : Trace) → SharesTell old h past → length past < 2 ^ 64 - 1
       → ComesTo h past e new what

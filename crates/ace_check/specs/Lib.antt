@@ -3,6 +3,6 @@ pub mod Shares
 pub mod Promises
 pub mod Run
 pub mod Heard
-pub mod Kept
+pub mod Found
 pub mod Addresses
 pub mod ReadData

@@ -1,5 +1,5 @@
 -- What a checker stands for, and what it answers to an event.
-use Rattle.std.specs.Prelude.{◌+◌, ◌≡◌, ◌<◌, ◌-◌, ◌^◌, ◌∷◌, ◌⊎◌, ℕ, false, Option, Some, None, length}
+use Rattle.std.specs.Prelude.{◌+◌, ◌≡◌, ◌<◌, ◌-◌, ◌^◌, ◌∷◌, ◌⊎◌, false, Option, Some, None, length}
 use Rattle.std.specs.List.{AllByRecursion}
 use Rattle.ace_event.specs.Range.{FitsFields}
 use Rattle.ace_event.specs.declared.event.Event.{Event}
@@ -12,14 +12,13 @@ use Rattle.ace_portck.specs.Unfinished.{RisesAt}
 use Rattle.ace_lineck.specs.Stands.{BeginsLine}
 use Rattle.ace_sysck.specs.Registrations.{IsNewLock}
 use Rattle.ace_check.specs.Shares.{SharesTell}
-use Rattle.ace_check.specs.declared.shares.Shares.{Shares}
 use Rattle.ace_check.specs.declared.checker.Checker.{Checker}
 use Rattle.ace_check.specs.declared.checker.Step.{Step}
 use Rattle.ace_check.specs.declared.checker.Step.TheVariants.{Fine, Broken}
 pub use Rattle.ace_check.specs.Promises.{IsSound, goes_over}
 
--- The checker stands for a trace under its header: for each share it keeps what there is to keep of the trace, which is accepted.
--- The last number is the break that was answered after it, if any was.
+-- The checker stands for a trace under its header: for each share it keeps what there is to keep of
+-- the trace, which is accepted. The last is the break that was answered after it, if any was.
 pub record Stands (c : Checker) (h : Header) (past : Trace) (b : Option Break) : Type 0 where
   pub tell : SharesTell c.shares h past
   pub count : c.count ≡ length past
@@ -27,16 +26,18 @@ pub record Stands (c : Checker) (h : Header) (past : Trace) (b : Option Break) :
   pub broken : c.broken ≡ b
   pub fits : AllByRecursion FitsFields past
 
--- where there may be no memory for an event: at an AC with which more snoops of its port are under way than ever before, at the first AR
--- or AW of a line and a MEM, and at the first exclusive grant of a line
+-- where there may be no memory for an event: at an AC with which more snoops of its port are under
+-- way than ever before, at the first AR or AW of a line and a MEM, and at the first exclusive grant
+-- of a line
 abbrev pub MayLackMemory : Header → Trace → Event → Type 0
 MayLackMemory h past e = RisesAt past e ⊎ BeginsLine past e (target_of h past e) ⊎ IsNewLock past e
 
--- the answer is the one to this event: Fine where the event breaks no rule and names no line too many; Broken with its number, from
--- 1, and the least rule that it breaks
+-- the answer is the one to this event: Fine where the event breaks no rule and names no line too
+-- many; Broken with its number, from 1, and the least rule that it breaks
 abbrev pub IsAnswer : Header → Trace → Event → Step → Type 0
 IsAnswer h past e Fine = (least_broken h past e ≡ None) × (goes_over past e ≡ false)
-IsAnswer h past e (Broken index rule) = (index ≡ length past + 1) × (least_broken h past e ≡ Some rule)
+IsAnswer h past e (Broken index rule) =
+    (index ≡ length past + 1) × (least_broken h past e ≡ Some rule)
 
 -- the trace after the answer
 abbrev pub past_after : Trace → Event → Step → Trace

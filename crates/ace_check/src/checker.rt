@@ -27,8 +27,9 @@ pub enum CheckErr {
     TooManyLines,
 }
 
-/// A checker of one trace by the forty rules, in three shares: what it keeps of each port, of each line, and of the system as a
-/// whole. It keeps no event. After the first event that breaks a rule it gives the same answer for good.
+/// A checker of one trace by the forty rules, in three shares: what it keeps of each port, of each
+/// line, and of the system as a whole. It keeps no event. After the first event that breaks a rule
+/// it gives the same answer for good.
 #[derive(Drop)]
 pub struct Checker {
     shares: Shares,
@@ -64,23 +65,30 @@ impl Checker {
         })
     }
 
-    /// Looks at the next event of the trace, of fewer than 2^64 - 1. Where it breaks no rule, the checker stands for the longer
-    /// trace. Where it breaks one, that break is the answer from then on. `TooManyLines` comes exactly where the event breaks no
-    /// rule and names line 4,097; `NoMemory` only where more snoops of a port are under way than ever before, at the first
-    /// transaction or MEM of a line, and at the first exclusive grant of a line. After either the checker stands where it did.
+    /// Looks at the next event of the trace, of fewer than 2^64 - 1. Where it breaks no rule, the
+    /// checker stands for the longer trace. Where it breaks one, that break is the answer from then
+    /// on. `TooManyLines` comes exactly where the event breaks no rule and names line 4,097;
+    /// `NoMemory` only where more snoops of a port are under way than ever before, at the first
+    /// transaction or MEM of a line, and at the first exclusive grant of a line. After either the
+    /// checker stands where it did.
     #[inline(always)]
     pub fn feed(&mut self, event: &Event) -> Result<Step, CheckErr>
-        ensures answer { (h : Header) (past : Trace) → Stands self.old h past None → IfOk result (IsAnswer h past event.now) }
-        ensures stands { (h : Header) (past : Trace) → Stands self.old h past None → length past < 2 ^ 64 - 2
-            → IfOk result (λ s. Stands self.new h (past_after past event.now s) (break_after s)) }
-        ensures stays { (h : Header) (past : Trace) → Stands self.old h past None → OnErr result (Stands self.new h past None) }
-        ensures too_many { (h : Header) (past : Trace) → Stands self.old h past None → result ≡ Err CheckErr.TooManyLines
+        ensures answer { (h : Header) (past : Trace) → Stands self.old h past None
+            → IfOk result (IsAnswer h past event.now) }
+        ensures stands { (h : Header) (past : Trace) → Stands self.old h past None
+            → length past < 2 ^ 64 - 2 → IfOk result (λ s.
+            Stands self.new h (past_after past event.now s) (break_after s)) }
+        ensures stays { (h : Header) (past : Trace) → Stands self.old h past None
+            → OnErr result (Stands self.new h past None) }
+        ensures too_many { (h : Header) (past : Trace) → Stands self.old h past None
+            → result ≡ Err CheckErr.TooManyLines
             → (least_broken h past event.now ≡ None) × (goes_over past event.now ≡ true) }
-        ensures no_memory { (h : Header) (past : Trace) → Stands self.old h past None → result ≡ Err CheckErr.NoMemory
-            → MayLackMemory h past event.now }
+        ensures no_memory { (h : Header) (past : Trace) → Stands self.old h past None
+            → result ≡ Err CheckErr.NoMemory → MayLackMemory h past event.now }
         ensures broken { (h : Header) (past : Trace) (b : Break) → Stands self.old h past (Some b)
             → (result ≡ Ok (Step.Broken b.index b.rule)) × Stands self.new h past (Some b) }
-        ensures sound { (h : Header) (past : Trace) → Stands self.old h past None → result ≡ Ok Step.Fine → IsSound h (event.now ∷ past) }
+        ensures sound { (h : Header) (past : Trace) → Stands self.old h past None
+            → result ≡ Ok Step.Fine → IsSound h (event.now ∷ past) }
     {
         if let Some(Break { index, rule }) = self.broken {
             return Ok(Step::Broken { index, rule });
@@ -111,14 +119,16 @@ impl Checker {
 
     /// Memory of the line.
     pub fn memory(&self, line: u32) -> Line
-        ensures { (h : Header) (past : Trace) (b : Option Break) → Stands self.now h past b → result ≡ memory_of past line }
+        ensures { (h : Header) (past : Trace) (b : Option Break) → Stands self.now h past b
+            → result ≡ memory_of past line }
     {
         self.shares.lines.memory(line)
     }
 
     /// How many events were answered `Fine`.
     pub fn count(&self) -> u64
-        ensures { (h : Header) (past : Trace) (b : Option Break) → Stands self.now h past b → result ≡ length past }
+        ensures { (h : Header) (past : Trace) (b : Option Break) → Stands self.now h past b
+            → result ≡ length past }
     {
         self.count
     }

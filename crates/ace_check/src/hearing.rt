@@ -1,4 +1,5 @@
-//! The shares hear an event: the least rule that it breaks; or else, where there is room for it, what it leaves.
+//! The shares hear an event: the least rule that it breaks; or else, where there is room for it,
+//! what it leaves.
 
 ghost use Rattle.ace_check.specs.Heard.{IsHeard};
 

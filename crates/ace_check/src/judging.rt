@@ -6,7 +6,11 @@ ghost use Rattle.ace_model.specs.Accepted.{least_broken};
 ghost use Rattle.ace_model.specs.Trace.{Trace};
 ghost use Rattle.ace_check.specs.Shares.{SharesTell, SharesStand};
 
+use crate::acknowledges::{judged_rk, judged_wk};
+use crate::grants::judged_g;
+use crate::memory_writes::judged_m;
 use crate::shares::Shares;
+use crate::write_responses::judged_b;
 use ace_event::Event;
 
 impl Shares {
@@ -40,7 +44,9 @@ impl Shares {
                 last,
                 word,
             } => self.rule_of_r(port, id, resp, last, word),
-            Event::Rk { port, st } => self.rule_of_rk(port, st),
+            Event::Rk { port, st } => {
+                judged_rk(&self.ports, &self.lines, &self.system, port, st).err()
+            }
             Event::Aw {
                 port,
                 id,
@@ -55,18 +61,22 @@ impl Shares {
                 last,
                 word,
             } => self.rule_of_w(port, strb, last, word),
-            Event::B { port, id, resp } => self.rule_of_b(port, id, resp),
-            Event::Wk { port, st } => self.rule_of_wk(port, st),
-            Event::Ac { port, addr, snoop } => self.rule_of_ac(port, addr, snoop),
-            Event::Cr { port, resp, st } => self.rule_of_cr(port, resp, st),
-            Event::Cd { port, last, word } => self.rule_of_cd(port, last, word),
-            Event::G { port, chan, id } => self.rule_of_g(port, chan, id),
+            Event::B { port, id, resp } => {
+                judged_b(&self.ports, &self.lines, &self.system, port, id, resp).err()
+            }
+            Event::Wk { port, st } => judged_wk(&self.ports, &self.lines, port, st).err(),
+            Event::Ac { port, addr, snoop } => self.judged_ac(port, addr, snoop).err(),
+            Event::Cr { port, resp, st } => self.judged_cr(port, resp, st).err(),
+            Event::Cd { port, last, word } => self.judged_cd(port, last, word).err(),
+            Event::G { port, chan, id } => {
+                judged_g(&self.ports, &self.lines, &self.system, port, chan, id).err()
+            }
             Event::M {
                 port,
                 chan,
                 id,
                 line,
-            } => self.rule_of_m(port, chan, id, &line),
+            } => judged_m(&self.ports, &self.lines, port, chan, id, &line).err(),
             Event::L {
                 port,
                 addr,

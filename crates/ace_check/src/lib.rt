@@ -1,4 +1,5 @@
-//! The checker of a trace, which is fed one event at a time, and the three shares of the rules that it stands on.
+//! The checker of a trace, which is fed one event at a time, and the three shares of the rules that
+//! it stands on.
 #![tactic(auto)]
 
 mod acknowledges;

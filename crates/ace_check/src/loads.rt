@@ -1,4 +1,5 @@
-//! Ls: an L moves nothing but what is kept of its port, and the port's monitor where it is exclusive.
+//! Ls: an L moves nothing but what is kept of its port, and the port's monitor where it is
+//! exclusive.
 
 ghost use Rattle.std.specs.Prelude.{◌≡◌};
 ghost use Rattle.ace_event.specs.declared.event.Event.TheVariants.{L};

@@ -1,58 +1,56 @@
 //! Ms: an M moves what is kept of its port and of its line.
 
-ghost use Rattle.std.specs.Prelude.{◌≡◌, ℕ, None, Some};
+ghost use Rattle.std.specs.Prelude.{◌≡◌, IfOk};
+ghost use Rattle.std.specs.Result.{result_err};
 ghost use Rattle.ace_event.specs.declared.event.Event.TheVariants.{M};
-ghost use Rattle.ace_event.specs.declared.header.Header.{Header};
-ghost use Rattle.ace_event.specs.declared.line.Line.{Line};
 ghost use Rattle.ace_model.specs.Accepted.{least_broken};
-ghost use Rattle.ace_model.specs.Trace.{Trace};
-ghost use Rattle.ace_model.specs.Transactions.{outstanding};
+ghost use Rattle.ace_portck.specs.Stands.{Stands as PortsTell};
+ghost use Rattle.ace_portck.specs.Targets.{Recording};
+ghost use Rattle.ace_lineck.specs.Stands.{Stands as LinesTell};
+ghost use Rattle.ace_check.specs.Found.{IsServed};
 ghost use Rattle.ace_check.specs.Heard.{IsHeard};
-ghost use Rattle.ace_check.specs.Shares.{SharesTell};
 
-use crate::heard::Heard;
+use crate::heard::{Heard, found_unless};
 use crate::shares::Shares;
 use ace_event::{Channel, Event, Line};
+use ace_lineck::LineCheck;
+use ace_portck::{PortCheck, Progress};
+
+/// The outstanding transaction of an M and the place of its line, or else the least rule that the
+/// M breaks: K1 of its port, K24 or K25 of its line.
+#[inline(always)]
+pub(crate) fn judged_m<'a>(
+    ports: &'a PortCheck,
+    lines: &LineCheck,
+    port: u8,
+    chan: Channel,
+    id: u8,
+    line: &Line,
+) -> Result<(&'a Progress, Option<usize>), u8>
+    ensures least { (r : Recording) → PortsTell ports.now r → LinesTell lines.now r
+        → result_err result ≡ least_broken r.header r.past (M port chan id line.now) }
+    ensures found { (r : Recording) → PortsTell ports.now r
+        → IfOk result (λ x. IsServed lines.now r port chan id x.0.now x.1) }
+{
+    let Some(x) = ports.outstanding(port, chan, id) else {
+        let absent = lines.rule_of_no_m();
+        return Err(ports.rule_of_m(port).unwrap_or(absent));
+    };
+    let place = lines.place(Some(x.transaction.addr));
+    let burst = ports.burst(port, chan, id);
+    found_unless((x, place), lines.rule_of_m(x, burst, place, line))
+}
 
 impl Shares {
-    /// The least rule that an M of no outstanding transaction breaks: K1 or K24.
-    fn rule_of_no_m(&self, port: u8, chan: Channel) -> u8
-        ensures { (h : Header) (past : Trace) (id : ℕ) (line : Line) → SharesTell self.now h past
-            → outstanding h past port chan id ≡ None
-            → least_broken h past (M port chan id line) ≡ Some result }
-    {
-        match self.ports.rule_of_m(port) {
-            Some(rule) => rule,
-            None => self.lines.rule_of_no_m(),
-        }
-    }
-
-    /// The least rule that an M breaks: K1 of its port, K24 or K25 of its line.
-    pub(crate) fn rule_of_m(&self, port: u8, chan: Channel, id: u8, line: &Line) -> Option<u8>
-        ensures { (h : Header) (past : Trace) → SharesTell self.now h past
-            → result ≡ least_broken h past (M port chan id line.now) }
-    {
-        let Some(x) = self.ports.outstanding(port, chan, id) else {
-            return Some(self.rule_of_no_m(port, chan));
-        };
-        let place = self.lines.place(Some(x.transaction.addr));
-        let burst = self.ports.burst(port, chan, id);
-        self.lines.rule_of_m(x, burst, place, line)
-    }
-
     /// Hears an M.
     #[inline(never)]
     pub(crate) fn hear_m(&mut self, port: u8, chan: Channel, id: u8, line: &Line) -> Heard
         ensures { IsHeard self.old (M port chan id line.now) self.new result }
     {
-        let Some(x) = self.ports.outstanding(port, chan, id) else {
-            return Heard::Broken(self.rule_of_no_m(port, chan));
+        let (x, place) = match judged_m(&self.ports, &self.lines, port, chan, id, line) {
+            Ok(found) => found,
+            Err(rule) => return Heard::Broken(rule),
         };
-        let place = self.lines.place(Some(x.transaction.addr));
-        let burst = self.ports.burst(port, chan, id);
-        if let Some(rule) = self.lines.rule_of_m(x, burst, place, line) {
-            return Heard::Broken(rule);
-        }
         self.lines.hear_memory_write(x, place, line);
         self.ports.hear(&Event::M {
             port,

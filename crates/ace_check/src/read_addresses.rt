@@ -1,13 +1,13 @@
 //! ARs: an AR of a line read moves what is kept of its port and of its line, and is the last read
 //! of its name.
 
-ghost use Rattle.std.specs.Prelude.{◌≡◌, ℕ, None, Some, true};
+ghost use Rattle.std.specs.Prelude.{◌≡◌, ℕ, Some, true};
 ghost use Rattle.ace_codes.specs.Reads.{ar_kind_of};
 ghost use Rattle.ace_event.specs.declared.event.Event.TheVariants.{Ar};
 ghost use Rattle.ace_event.specs.declared.header.Header.{Header};
 ghost use Rattle.ace_model.specs.Accepted.{least_broken};
 ghost use Rattle.ace_model.specs.Kinds.{is_line_read};
-ghost use Rattle.ace_model.specs.Trace.{Trace, option_filter};
+ghost use Rattle.ace_model.specs.Trace.{Trace};
 ghost use Rattle.ace_lineck.specs.Stands.{place_on};
 ghost use Rattle.ace_check.specs.Heard.{IsHeard};
 ghost use Rattle.ace_check.specs.Shares.{SharesTell};
@@ -15,10 +15,9 @@ ghost use Rattle.ace_check.specs.Shares.{SharesTell};
 use crate::heard::Heard;
 use crate::line_addresses::line_read_kind;
 use crate::shares::{Shares, lesser};
-use ace_codes::{ArKind, read_ar};
-use ace_event::{Channel, Event};
+use ace_codes::ArKind;
+use ace_event::Event;
 use ace_lineck::is_no_snoop_read;
-use ace_model::Transaction;
 
 impl Shares {
     /// The least rule that an AR breaks.
@@ -36,7 +35,8 @@ impl Shares {
             → result ≡ least_broken h past (Ar port id addr snoop dom bar lock) }
     {
         let Some(kind) = line_read_kind(snoop, dom, bar) else {
-            return self.rule_of_lineless_ar(port, id, addr, snoop, dom, bar, lock);
+            let judged = self.judged_lineless_ar(port, id, addr, snoop, dom, bar, lock);
+            return judged.err();
         };
         let place = self.lines.place(Some(addr));
         self.rule_of_line_ar(port, id, addr, kind, lock, place)
@@ -62,47 +62,6 @@ impl Shares {
         let at_port = self.ports.rule_of_ar(port, id, addr, Some(kind), lock);
         let on_line = self.lines.rule_of_ar(port, kind, place);
         lesser(at_port, on_line)
-    }
-
-    /// The same, of one that issues no line read: K1 to K4 and K7 look at it by its port, K9 and
-    /// K38 by the system.
-    fn rule_of_lineless_ar(
-        &self,
-        port: u8,
-        id: u8,
-        addr: u32,
-        snoop: u8,
-        dom: u8,
-        bar: u8,
-        lock: bool,
-    ) -> Option<u8>
-        ensures { (h : Header) (past : Trace) → SharesTell self.now h past
-            → option_filter is_line_read (ar_kind_of snoop dom bar) ≡ None
-            → result ≡ least_broken h past (Ar port id addr snoop dom bar lock) }
-    {
-        let kind = read_ar(snoop, dom, bar);
-        if let Some(rule) = self.ports.rule_of_ar(port, id, addr, kind, lock) {
-            return Some(rule);
-        }
-        let Some(kind) = kind else {
-            return None;
-        };
-        let read = Transaction {
-            place: self.ports.place(),
-            port,
-            chan: Channel::Read,
-            id,
-            addr,
-            snoop,
-            dom,
-            bar,
-            lock,
-        };
-        match kind {
-            ArKind::DvmMessage => self.system.rule_of_message_ar(port, addr, dom, bar),
-            ArKind::DvmComplete => self.system.rule_of_completion_ar(port, addr),
-            _ => self.system.rule_of_half(&read),
-        }
     }
 
     /// Hears an AR. The line of a line read may be a new one.
@@ -144,55 +103,5 @@ impl Shares {
         self.lines.hear_address(is_no_snoop_read(kind), place);
         self.system.begin_line_read(port, id);
         Heard::Fine
-    }
-
-    /// The same, of one that issues no line read.
-    #[inline(never)]
-    fn hear_lineless_ar(
-        &mut self,
-        port: u8,
-        id: u8,
-        addr: u32,
-        snoop: u8,
-        dom: u8,
-        bar: u8,
-        lock: bool,
-    ) -> Heard
-        ensures { option_filter is_line_read (ar_kind_of snoop dom bar) ≡ None
-            → IsHeard self.old (Ar port id addr snoop dom bar lock) self.new result }
-    {
-        if let Some(rule) = self.rule_of_lineless_ar(port, id, addr, snoop, dom, bar, lock) {
-            return Heard::Broken(rule);
-        }
-        let Some(kind) = read_ar(snoop, dom, bar) else {
-            return Heard::Broken(2);
-        };
-        let read = Transaction {
-            place: self.ports.place(),
-            port,
-            chan: Channel::Read,
-            id,
-            addr,
-            snoop,
-            dom,
-            bar,
-            lock,
-        };
-        match kind {
-            ArKind::DvmMessage => self.hear_message(&read),
-            ArKind::DvmComplete => self.hear_completion(&read),
-            _ => self.hear_half(
-                &Event::Ar {
-                    port,
-                    id,
-                    addr,
-                    snoop,
-                    dom,
-                    bar,
-                    lock,
-                },
-                &read,
-            ),
-        }
     }
 }

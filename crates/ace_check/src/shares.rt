@@ -20,7 +20,8 @@ use ace_portck::PortCheck;
 use ace_sysck::SysCheck;
 use std::alloc::Global;
 
-/// What is kept of a trace by the three shares of the rules: of each port, of each line, and of the system as a whole.
+/// What is kept of a trace by the three shares of the rules: of each port, of each line, and of the
+/// system as a whole.
 #[derive(Drop)]
 pub struct Shares {
     pub(crate) ports: PortCheck,
@@ -65,7 +66,8 @@ impl Shares {
 
     /// Hears the next event of the trace, which breaks no rule, and takes no memory for it.
     pub fn hear(&mut self, event: &Event)
-        ensures { (h : Header) (past : Trace) → SharesStand self.old h past → MayHear h past event.now → SharesStand self.new h (event.now ∷ past) }
+        ensures { (h : Header) (past : Trace) → SharesStand self.old h past
+            → MayHear h past event.now → SharesStand self.new h (event.now ∷ past) }
     {
         let _heard = self.hear_event(event);
     }
@@ -91,10 +93,11 @@ impl Shares {
         &self.system
     }
 
-    /// The granted transaction of the line, whose record stands at the place, is an exclusive store that failed.
+    /// The granted transaction of the line, whose record stands at the place, is an exclusive store
+    /// that failed.
     pub(crate) fn has_failed_at(&self, place: Option<usize>) -> bool
-        ensures { (h : Header) (past : Trace) (line : ℕ) → SharesTell self.now h past → place ≡ place_on self.now.lines (Some line)
-            → result ≡ has_failed_on h past line }
+        ensures { (h : Header) (past : Trace) (line : ℕ) → SharesTell self.now h past
+            → place ≡ place_on self.now.lines (Some line) → result ≡ has_failed_on h past line }
     {
         match self.lines.granted(place) {
             None => false,
@@ -105,8 +108,9 @@ impl Shares {
     /// The outstanding transaction of this name is an exclusive store that failed.
     #[inline(always)]
     fn has_failed_as(&self, port: u8, chan: Channel, id: u8) -> bool
-        ensures { (h : Header) (past : Trace) (x : Transaction) → SharesTell self.now h past → outstanding h past port chan id ≡ Some x
-            → x.chan ≡ chan → result ≡ has_failed past x }
+        ensures { (h : Header) (past : Trace) (x : Transaction) → SharesTell self.now h past
+            → outstanding h past port chan id ≡ Some x → x.chan ≡ chan
+            → result ≡ has_failed past x }
     {
         match chan {
             Channel::Read => self.system.failed(port, id),

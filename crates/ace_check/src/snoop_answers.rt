@@ -1,17 +1,22 @@
 //! CRs: a CR moves what is kept of its port, and of the line or message of its snoop.
 
-ghost use Rattle.std.specs.Prelude.{◌≡◌, ℕ, Some};
+ghost use Rattle.std.specs.Prelude.{◌≡◌, ℕ, Some, IfOk};
+ghost use Rattle.std.specs.Result.{result_err};
 ghost use Rattle.ace_event.specs.declared.event.Event.TheVariants.{Cr};
 ghost use Rattle.ace_event.specs.declared.header.Header.{Header};
 ghost use Rattle.ace_model.specs.Accepted.{least_broken};
 ghost use Rattle.ace_model.specs.Progress.{has_update};
 ghost use Rattle.ace_model.specs.Trace.{Trace};
+ghost use Rattle.ace_model.specs.declared.snoops.Snoop.{Snoop};
+ghost use Rattle.ace_portck.specs.SnoopAnswers.{IsAnswered};
+ghost use Rattle.ace_portck.specs.Targets.{line_of_snoop};
+ghost use Rattle.ace_lineck.specs.Stands.{place_on};
 ghost use Rattle.ace_check.specs.Heard.{IsHeard};
 ghost use Rattle.ace_check.specs.Shares.{SharesTell};
 
-use crate::heard::Heard;
+use crate::heard::{Heard, found_unless};
 use crate::shares::Shares;
-use ace_codes::{LineState, read_ac};
+use ace_codes::{LineState, SnoopKind, read_ac};
 use ace_event::Event;
 use ace_portck::snooped_line;
 
@@ -28,26 +33,36 @@ impl Shares {
         }
     }
 
-    /// The least rule that a CR breaks: K1, K2 or K14 of its port, or K15 or K16 of the snoop that
-    /// it answers.
+    /// The kind and the line of the snoop that a CR answers, with the place of the line; or else
+    /// the least rule that the CR breaks: K1, K2 or K14 of its port, or K15 or K16.
     #[inline(always)]
-    pub(crate) fn rule_of_cr(&self, port: u8, resp: u8, st: LineState) -> Option<u8>
-        ensures { (h : Header) (past : Trace) → SharesTell self.now h past
-            → result ≡ least_broken h past (Cr port resp st) }
+    pub(crate) fn judged_cr(
+        &self,
+        port: u8,
+        resp: u8,
+        st: LineState,
+    ) -> Result<(SnoopKind, Option<u32>, Option<usize>), u8>
+        ensures least { (h : Header) (past : Trace) → SharesTell self.now h past
+            → result_err result ≡ least_broken h past (Cr port resp st) }
+        ensures found { (h : Header) (past : Trace) → SharesTell self.now h past
+            → IfOk result (λ x. (s : Snoop) × IsAnswered past port s x.0
+            × (x.1 ≡ line_of_snoop (Some s))
+            × (x.2 ≡ place_on self.now.lines (line_of_snoop (Some s)))) }
     {
         if let Some(rule) = self.ports.rule_of_cr(port, resp) {
-            return Some(rule);
+            return Err(rule);
         }
         let Some(snoop) = self.ports.answered(port) else {
-            return Some(14);
+            return Err(14);
         };
         let Some(kind) = read_ac(snoop.snoop) else {
-            return Some(14);
+            return Err(14);
         };
         let line = snooped_line(snoop, kind);
         let place = self.lines.place(line);
         let update = self.has_update(port, line);
-        self.lines.rule_of_cr(port, resp, st, kind, place, update)
+        let rule = self.lines.rule_of_cr(port, resp, st, kind, place, update);
+        found_unless((kind, line, place), rule)
     }
 
     /// Hears a CR.
@@ -55,17 +70,10 @@ impl Shares {
     pub(crate) fn hear_cr(&mut self, port: u8, resp: u8, st: LineState) -> Heard
         ensures { IsHeard self.old (Cr port resp st) self.new result }
     {
-        if let Some(rule) = self.rule_of_cr(port, resp, st) {
-            return Heard::Broken(rule);
-        }
-        let Some(snoop) = self.ports.answered(port) else {
-            return Heard::Broken(14);
+        let (kind, line, place) = match self.judged_cr(port, resp, st) {
+            Ok(found) => found,
+            Err(rule) => return Heard::Broken(rule),
         };
-        let Some(kind) = read_ac(snoop.snoop) else {
-            return Heard::Broken(14);
-        };
-        let line = snooped_line(snoop, kind);
-        let place = self.lines.place(line);
         self.ports.hear(&Event::Cr { port, resp, st });
         self.lines.hear_snoop_answer(port, resp, st, place);
         self.system.hear_snoop_answer(port, kind, line, st);

@@ -4,12 +4,14 @@ ghost use Rattle.std.specs.Prelude.{◌≡◌};
 ghost use Rattle.ace_event.specs.declared.event.Event.TheVariants.{Cd};
 ghost use Rattle.ace_check.specs.Heard.{IsHeard};
 
-use crate::heard::Heard;
+use crate::heard::{Heard, found_unless};
 use crate::shares::Shares;
 use ace_event::Event;
+use ace_model::Snoop;
 
 impl Shares {
-    ghost use Rattle.std.specs.Prelude.{Bool, None, Some, ℕ};
+    ghost use Rattle.std.specs.Prelude.{Some, IfOk};
+    ghost use Rattle.std.specs.Result.{result_err};
     ghost use Rattle.ace_event.specs.declared.header.Header.{Header};
     ghost use Rattle.ace_model.specs.declared.snoops.Snoop.{Snoop};
     ghost use Rattle.ace_model.specs.Accepted.{least_broken};
@@ -18,17 +20,6 @@ impl Shares {
     ghost use Rattle.ace_portck.specs.Targets.{sending};
     ghost use Rattle.ace_lineck.specs.Stands.{place_on};
     ghost use Rattle.ace_check.specs.Shares.{SharesTell};
-
-    /// The least rule that a CD breaks which sends data for no snoop: K1 or K17.
-    fn rule_of_no_cd(&self, port: u8) -> u8
-        ensures { (h : Header) (past : Trace) (last : Bool) (word : ℕ) → SharesTell self.now h past
-            → sending past port ≡ None → least_broken h past (Cd port last word) ≡ Some result }
-    {
-        match self.ports.rule_of_cd(port, true) {
-            Some(rule) => rule,
-            None => 17,
-        }
-    }
 
     /// The least rule that a CD breaks which is this beat of the data for a snoop: K1 or K17 of its
     /// port, or K17 of its line, whose record stands at the place.
@@ -52,16 +43,28 @@ impl Shares {
         self.lines.rule_of_cd(place, port, beat, word)
     }
 
-    /// The least rule that a CD breaks.
-    pub(crate) fn rule_of_cd(&self, port: u8, last: bool, word: u128) -> Option<u8>
-        ensures { (h : Header) (past : Trace) → SharesTell self.now h past
-            → result ≡ least_broken h past (Cd port last word) }
+    /// The snoop that a CD sends data for, the place of its line and the beat; or else the least
+    /// rule that the CD breaks.
+    #[inline(always)]
+    pub(crate) fn judged_cd(
+        &self,
+        port: u8,
+        last: bool,
+        word: u128,
+    ) -> Result<(Snoop, Option<usize>, u8), u8>
+        ensures least { (h : Header) (past : Trace) → SharesTell self.now h past
+            → result_err result ≡ least_broken h past (Cd port last word) }
+        ensures found { (h : Header) (past : Trace) → SharesTell self.now h past
+            → IfOk result (λ x. (sending past port ≡ Some x.0) × (x.2 ≡ next_sent_beat past port)
+            × (x.1 ≡ place_on self.now.lines (Some x.0.addr))) }
     {
         let Some(snoop) = self.ports.sending(port) else {
-            return Some(self.rule_of_no_cd(port));
+            return Err(self.ports.rule_of_cd(port, true).unwrap_or(17));
         };
+        let beat = self.ports.next_sent_beat(port);
         let place = self.lines.place(Some(snoop.addr));
-        self.rule_of_beat(port, last, word, self.ports.next_sent_beat(port), place)
+        let rule = self.rule_of_beat(port, last, word, beat, place);
+        found_unless((snoop, place, beat), rule)
     }
 
     /// Hears a CD.
@@ -69,14 +72,10 @@ impl Shares {
     pub(crate) fn hear_cd(&mut self, port: u8, last: bool, word: u128) -> Heard
         ensures { IsHeard self.old (Cd port last word) self.new result }
     {
-        let Some(snoop) = self.ports.sending(port) else {
-            return Heard::Broken(self.rule_of_no_cd(port));
+        let (_, place, beat) = match self.judged_cd(port, last, word) {
+            Ok(found) => found,
+            Err(rule) => return Heard::Broken(rule),
         };
-        let beat = self.ports.next_sent_beat(port);
-        let place = self.lines.place(Some(snoop.addr));
-        if let Some(rule) = self.rule_of_beat(port, last, word, beat, place) {
-            return Heard::Broken(rule);
-        }
         self.ports.hear(&Event::Cd { port, last, word });
         self.lines.hear_sent(place, port, beat);
         Heard::Fine

@@ -1,4 +1,5 @@
-//! Ds: a D moves what is kept of its port, of the port's copy of the line, and of the port's monitor where it is exclusive.
+//! Ds: a D moves what is kept of its port, of the port's copy of the line, and of the port's
+//! monitor where it is exclusive.
 
 ghost use Rattle.std.specs.Prelude.{◌≡◌};
 ghost use Rattle.ace_event.specs.declared.event.Event.TheVariants.{D};

@@ -1,6 +1,6 @@
 //! AWs: an AW of a line write moves what is kept of its port and of its line.
 
-ghost use Rattle.std.specs.Prelude.{◌≡◌, ℕ, None, Some};
+ghost use Rattle.std.specs.Prelude.{◌≡◌, ℕ, Some};
 ghost use Rattle.ace_event.specs.declared.event.Event.TheVariants.{Aw};
 ghost use Rattle.ace_event.specs.declared.header.Header.{Header};
 ghost use Rattle.ace_model.specs.Accepted.{least_broken};
@@ -12,10 +12,9 @@ ghost use Rattle.ace_check.specs.Shares.{SharesTell};
 
 use crate::heard::Heard;
 use crate::shares::{Shares, lesser};
-use ace_codes::{AwKind, read_aw};
-use ace_event::{Channel, Event};
+use ace_codes::AwKind;
+use ace_event::Event;
 use ace_lineck::is_no_snoop_write;
-use ace_model::Transaction;
 use ace_portck::line_write_kind;
 
 impl Shares {
@@ -33,7 +32,8 @@ impl Shares {
             → result ≡ least_broken h past (Aw port id addr snoop dom bar) }
     {
         let Some(kind) = line_write_kind(snoop, dom, bar) else {
-            return self.rule_of_lineless_aw(port, id, addr, snoop, dom, bar);
+            let judged = self.judged_lineless_aw(port, id, addr, snoop, dom, bar);
+            return judged.err();
         };
         let place = self.lines.place(Some(addr));
         self.rule_of_line_aw(port, id, addr, kind, place)
@@ -58,39 +58,6 @@ impl Shares {
         let at_port = self.ports.rule_of_aw(port, id, addr, Some(kind));
         let on_line = self.lines.rule_of_aw(port, kind, place);
         lesser(at_port, on_line)
-    }
-
-    /// The same, of one that issues no line write: K1 to K4 look at it by its port, K9 by the
-    /// barriers of its port.
-    fn rule_of_lineless_aw(
-        &self,
-        port: u8,
-        id: u8,
-        addr: u32,
-        snoop: u8,
-        dom: u8,
-        bar: u8,
-    ) -> Option<u8>
-        ensures { (h : Header) (past : Trace) → SharesTell self.now h past
-            → line_write_kind snoop dom bar ≡ None
-            → result ≡ least_broken h past (Aw port id addr snoop dom bar) }
-    {
-        let kind = read_aw(snoop, dom, bar);
-        if let Some(rule) = self.ports.rule_of_aw(port, id, addr, kind) {
-            return Some(rule);
-        }
-        let half = Transaction {
-            place: self.ports.place(),
-            port,
-            chan: Channel::Write,
-            id,
-            addr,
-            snoop,
-            dom,
-            bar,
-            lock: false,
-        };
-        self.system.rule_of_half(&half)
     }
 
     /// Hears an AW. The line of a line write may be a new one.
@@ -129,44 +96,5 @@ impl Shares {
         });
         self.lines.hear_address(is_no_snoop_write(kind), place);
         Heard::Fine
-    }
-
-    /// The same, of one that issues no line write.
-    #[inline(never)]
-    fn hear_lineless_aw(
-        &mut self,
-        port: u8,
-        id: u8,
-        addr: u32,
-        snoop: u8,
-        dom: u8,
-        bar: u8,
-    ) -> Heard
-        ensures { line_write_kind snoop dom bar ≡ None
-            → IsHeard self.old (Aw port id addr snoop dom bar) self.new result }
-    {
-        if let Some(rule) = self.rule_of_lineless_aw(port, id, addr, snoop, dom, bar) {
-            return Heard::Broken(rule);
-        }
-        let half = Transaction {
-            place: self.ports.place(),
-            port,
-            chan: Channel::Write,
-            id,
-            addr,
-            snoop,
-            dom,
-            bar,
-            lock: false,
-        };
-        let write = Event::Aw {
-            port,
-            id,
-            addr,
-            snoop,
-            dom,
-            bar,
-        };
-        self.hear_half(&write, &half)
     }
 }

@@ -1,8 +1,6 @@
 use Rattle.std.proofs.Common.{◌≡◌, ◌∙◌, true, Some, refl, ap}
 use Rattle.ace_codes.specs.declared.kind.ArKind.TheVariants as read
-use Rattle.ace_model.specs.Barriers.{is_barrier_half}
-use Rattle.ace_model.specs.Messages.{is_message_part}
-use Rattle.ace_model.specs.Transactions.{read_kind}
+use Rattle.ace_check.proofs.Terms.{is_barrier_half, is_message_part, read_kind}
 use Rattle.ace_sysck.proofs.ByKind.Responses.{other-read}
 use Rattle.ace_check.proofs.lineless_reads.system_rule_of_r.Goals as goal
 

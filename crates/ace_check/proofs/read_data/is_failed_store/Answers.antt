@@ -1,6 +1,5 @@
 use Rattle.std.proofs.Common.{◌≡◌, Some, sym, subst}
-use Rattle.ace_event.specs.declared.event.Channel.TheVariants.{Read}
-use Rattle.ace_model.specs.Transactions.{outstanding}
+use Rattle.ace_check.proofs.Terms.{Read, outstanding}
 use Rattle.ace_model.proofs.Trace.Issued.{outstanding-name}
 use Rattle.ace_check.proofs.read_data.is_failed_store.Goals as goal
 

@@ -1,9 +1,6 @@
 use Rattle.std.proofs.Common.{◌≡◌, true, false, None, Some, option_map, sym, ap, ◌∙◌}
-use Rattle.std.specs.Option.{option_copied}
-use Rattle.ace_event.specs.declared.event.Channel.TheVariants.{Read}
-use Rattle.ace_model.specs.Transactions.{outstanding, read_kind}
+use Rattle.ace_check.proofs.Terms.{option_copied, Read, outstanding, read_kind, progress_of}
 use Rattle.ace_model.proofs.Trace.IssuedTransactions.{outstanding-read}
-use Rattle.ace_portck.specs.Targets.{progress_of}
 use Rattle.ace_sysck.proofs.Steps.{progress_from}
 use Rattle.ace_check.proofs.ReadLaws.{transfer-ports-first}
 use Rattle.ace_check.proofs.WhatComes.{no-progress}

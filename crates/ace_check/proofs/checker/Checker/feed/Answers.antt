@@ -1,5 +1,5 @@
 use Rattle.std.proofs.Common.{◌∷◌, refl, subst, arith}
-use Rattle.ace_check.specs.Heard.{ComesTo}
+use Rattle.ace_check.proofs.Terms.{ComesTo}
 use Rattle.ace_check.proofs.Steps.{accepted_sound}
 use Rattle.ace_check.proofs.checker.Checker.feed.Goals as goal
 

@@ -1,6 +1,5 @@
 use Rattle.std.proofs.Common.{◌≡◌, Some, subst, ◌∙◌}
-use Rattle.ace_event.specs.declared.event.Channel.{Channel}
-use Rattle.ace_model.specs.Transactions.{outstanding}
+use Rattle.ace_check.proofs.Terms.{Channel, outstanding}
 use Rattle.ace_check.proofs.Steps.{no_write_fails}
 use Rattle.ace_check.proofs.shares.Shares.has_failed_as.Goals as goal
 

@@ -1,5 +1,5 @@
 use Rattle.std.proofs.Common.{sym, ◌∙◌}
-use Rattle.ace_portck.specs.Targets.{Recording}
+use Rattle.ace_check.proofs.Terms.{Recording}
 use Rattle.ace_check.proofs.Steps.{unlocked_stands}
 use Rattle.ace_check.proofs.shares.Shares.has_failed_exclusively.Goals as goal
 

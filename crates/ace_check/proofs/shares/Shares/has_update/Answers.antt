@@ -1,7 +1,6 @@
 use Rattle.std.proofs.Common.{◌≡◌, Some, None, sym, ap, ◌∙◌}
-use Rattle.ace_model.specs.Progress.{has_update}
+use Rattle.ace_check.proofs.Terms.{has_update, Recording}
 use Rattle.ace_model.proofs.General.Options.{Some-injective}
-use Rattle.ace_portck.specs.Targets.{Recording}
 use Rattle.ace_check.proofs.shares.Shares.has_update.Goals as goal
 
 pub returns-in-None : goal.returns-in-None

@@ -1,5 +1,5 @@
 use Rattle.std.proofs.Common.{subst}
-use Rattle.ace_check.specs.Heard.{ComesTo}
+use Rattle.ace_check.proofs.Terms.{ComesTo}
 use Rattle.ace_check.proofs.shares.Shares.hear.Goals as goal
 
 pub returns : goal.returns

@@ -1,9 +1,6 @@
 use Rattle.std.proofs.Common.{◌≡◌, ◌∷◌, true, false, length, refl, sym, ◌∙◌, inl, inr}
-use Rattle.ace_codes.specs.Reads.{ar_kind_of}
-use Rattle.ace_event.specs.declared.event.Event.TheVariants.{Ar}
-use Rattle.ace_model.specs.Kinds.{is_line_read}
+use Rattle.ace_check.proofs.Terms.{ar_kind_of, Ar, is_line_read, Recording}
 use Rattle.ace_model.proofs.General.Options.{option_filter-is}
-use Rattle.ace_portck.specs.Targets.{Recording}
 use Rattle.ace_portck.proofs.ReadAddresses.{read_of}
 use Rattle.ace_lineck.proofs.Beginnings.{address-begins, address-roomy}
 use Rattle.ace_check.proofs.Addresses.{line-over, read-on_line, read-unshared}
@@ -22,7 +19,7 @@ returns-in-Some-rule_of_line_ar c =
     let e = Ar a.port a.id a.addr a.snoop a.dom a.bar a.lock in
     heard-broken a.self.now e c.in-Some-rule_of_line_ar.rule
     (λ h past s.
-    sym (c.rule_of_line_ar.ensures h past a.snoop a.dom a.bar s c.place-place.ensures codes.0 codes.1) ∙ c.in-Some-rule_of_line_ar.is)
+    sym c.in-Some-rule_of_line_ar.is ∙ c.rule_of_line_ar.ensures h past a.snoop a.dom a.bar s c.place-place.ensures codes.0 codes.1)
 
 pub returns-then-is_line_too_many : goal.returns-then-is_line_too_many
 returns-then-is_line_too_many c =

@@ -1,10 +1,7 @@
 use Rattle.std.proofs.Common.{◌≡◌, ◌∷◌, true, false, refl, sym, ◌∙◌, inl, inr}
-use Rattle.ace_codes.specs.Writes.{aw_kind_of}
-use Rattle.ace_event.specs.declared.event.Event.TheVariants.{Aw}
-use Rattle.ace_model.specs.Kinds.{is_line_write}
+use Rattle.ace_check.proofs.Terms.{aw_kind_of, Aw, is_line_write, Recording}
 use Rattle.ace_model.proofs.General.Options.{option_filter-is}
 use Rattle.ace_model.proofs.Trace.Outstanding.{write_issued}
-use Rattle.ace_portck.specs.Targets.{Recording}
 use Rattle.ace_lineck.proofs.Beginnings.{address-begins, address-roomy}
 use Rattle.ace_sysck.proofs.ByKind.WriteAddresses.{system-begun}
 use Rattle.ace_check.proofs.Addresses.{line-over, write-on_line, write-unshared}
@@ -23,7 +20,7 @@ returns-in-Some-rule_of_line_aw c =
     let e = Aw a.port a.id a.addr a.snoop a.dom a.bar in
     heard-broken a.self.now e c.in-Some-rule_of_line_aw.rule
     (λ h past s.
-    sym (c.rule_of_line_aw.ensures h past a.snoop a.dom a.bar s c.place-place.ensures (sym c.line_write_kind.ensures ∙ c.in-Some.is)) ∙ c.in-Some-rule_of_line_aw.is)
+    sym c.in-Some-rule_of_line_aw.is ∙ c.rule_of_line_aw.ensures h past a.snoop a.dom a.bar s c.place-place.ensures (sym c.line_write_kind.ensures ∙ c.in-Some.is))
 
 pub returns-then-is_line_too_many : goal.returns-then-is_line_too_many
 returns-then-is_line_too_many c =

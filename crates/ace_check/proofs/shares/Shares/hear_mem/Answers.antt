@@ -1,6 +1,5 @@
 use Rattle.std.proofs.Common.{◌≡◌, false, true, refl, sym, ◌∙◌, inl, inr}
-use Rattle.ace_event.specs.declared.event.Event.TheVariants.{Mem}
-use Rattle.ace_portck.specs.Targets.{Recording}
+use Rattle.ace_check.proofs.Terms.{Mem, Recording}
 use Rattle.ace_sysck.proofs.Unmoved.{system_still}
 use Rattle.ace_check.proofs.Rooms.{may-apply}
 use Rattle.ace_check.proofs.WhatComes.{heard-broken}
@@ -11,7 +10,7 @@ returns-in-Some c =
     let a = c.args in
     let e = Mem a.addr a.line.now in
     heard-broken a.self.now e c.in-Some.rule
-    (λ h past s. sym (c.rule_of_mem.ensures h past a.line.now s) ∙ c.in-Some.is)
+    (λ h past s. sym c.in-Some.is ∙ c.rule_of_mem.ensures h past a.line.now s)
 
 pub returns-in_default-make_record : goal.returns-in_default-make_record
 returns-in_default-make_record c =

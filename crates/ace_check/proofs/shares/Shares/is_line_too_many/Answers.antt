@@ -1,6 +1,5 @@
 use Rattle.std.proofs.Common.{◌≡◌, true, false, refl, sym, ◌∙◌}
-use Rattle.ace_model.specs.Lines.{is_known}
-use Rattle.ace_portck.specs.Targets.{Recording}
+use Rattle.ace_check.proofs.Terms.{is_known, Recording}
 use Rattle.ace_check.proofs.shares.Shares.is_line_too_many.Goals as goal
 
 pub returns-then-not-knows : goal.returns-then-not-knows

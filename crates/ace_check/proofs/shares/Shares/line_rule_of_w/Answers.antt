@@ -1,5 +1,5 @@
 use Rattle.std.proofs.Common.{refl, sym, ◌∙◌}
-use Rattle.ace_portck.specs.Targets.{Recording}
+use Rattle.ace_check.proofs.Terms.{Recording}
 use Rattle.ace_check.proofs.shares.Shares.line_rule_of_w.Goals as goal
 
 pub returns-in_default : goal.returns-in_default

@@ -1,5 +1,5 @@
 use Rattle.std.proofs.Common.{sym, ap, ◌∙◌}
-use Rattle.ace_model.specs.Accepted.{least_broken}
+use Rattle.ace_check.proofs.Terms.{least_broken}
 use Rattle.ace_check.proofs.shares.Shares.rule_of.Goals as goal
 
 pub returns-in-L : goal.returns-in-L
@@ -13,3 +13,18 @@ returns-in-Op c = λ h past s. c.rule_of_op.ensures h past c.in-Op.res s ∙ ap 
 
 pub returns-in-Mem : goal.returns-in-Mem
 returns-in-Mem c = λ h past s. c.rule_of_mem.ensures h past c.in-Mem.line s ∙ ap (least_broken h past) (sym c.in-Mem.is)
+
+pub returns-in-Rk : goal.returns-in-Rk
+returns-in-Rk c = λ h past s. c.err.ensures.value ∙ c.judged_rk.ensures.least (record { header = h; past = past }) s.ports s.lines s.system ∙ ap (least_broken h past) (sym c.in-Rk.is)
+
+pub returns-in-Wk : goal.returns-in-Wk
+returns-in-Wk c = λ h past s. c.err-in-Wk.ensures.value ∙ c.judged_wk.ensures.least (record { header = h; past = past }) s.ports s.lines ∙ ap (least_broken h past) (sym c.in-Wk.is)
+
+pub returns-in-B : goal.returns-in-B
+returns-in-B c = λ h past s. c.err-in-B.ensures.value ∙ c.judged_b.ensures.least (record { header = h; past = past }) s.ports s.lines s.system ∙ ap (least_broken h past) (sym c.in-B.is)
+
+pub returns-in-M : goal.returns-in-M
+returns-in-M c = λ h past s. c.err-in-M.ensures.value ∙ c.judged_m.ensures.least (record { header = h; past = past }) s.ports s.lines ∙ ap (least_broken h past) (sym c.in-M.is)
+
+pub returns-in-G : goal.returns-in-G
+returns-in-G c = λ h past s. c.err-in-G.ensures.value ∙ c.judged_g.ensures.least (record { header = h; past = past }) s.ports s.lines s.system ∙ ap (least_broken h past) (sym c.in-G.is)

@@ -1,11 +1,10 @@
 use Rattle.std.proofs.Common.{sym, ◌∙◌}
-use Rattle.ace_codes.specs.Reads.{ar_kind_of}
-use Rattle.ace_model.specs.Kinds.{is_line_read}
+use Rattle.ace_check.proofs.Terms.{ar_kind_of, is_line_read}
 use Rattle.ace_model.proofs.General.Options.{option_filter-is}
 use Rattle.ace_check.proofs.shares.Shares.rule_of_ar.Goals as goal
 
 pub returns-in_default : goal.returns-in_default
-returns-in_default c = λ h past s. c.rule_of_lineless_ar.ensures h past s (sym c.line_read_kind.ensures ∙ c.in_default.is)
+returns-in_default c = λ h past s. c.err.ensures.value ∙ c.judged_lineless_ar-judged.ensures.least h past s (sym c.line_read_kind.ensures ∙ c.in_default.is)
 
 pub returns : goal.returns
 returns c = λ h past s.

@@ -2,7 +2,7 @@ use Rattle.std.proofs.Common.{sym, ◌∙◌}
 use Rattle.ace_check.proofs.shares.Shares.rule_of_aw.Goals as goal
 
 pub returns-in_default : goal.returns-in_default
-returns-in_default c = λ h past s. c.rule_of_lineless_aw.ensures h past s (sym c.line_write_kind.ensures ∙ c.in_default.is)
+returns-in_default c = λ h past s. c.err.ensures.value ∙ c.judged_lineless_aw-judged.ensures.least h past s (sym c.line_write_kind.ensures ∙ c.in_default.is)
 
 pub returns : goal.returns
 returns c = λ h past s.

@@ -1,8 +1,5 @@
 use Rattle.std.proofs.Common.{None, refl, sym, ◌∙◌, arith}
-use Rattle.ace_event.specs.declared.event.Event.TheVariants.{Cd}
-use Rattle.ace_model.specs.AddressRules.{k1}
-use Rattle.ace_model.specs.Shares.{k17_burst, k17_data}
-use Rattle.ace_portck.specs.Targets.{Recording}
+use Rattle.ace_check.proofs.Terms.{Cd, k1, k17_burst, k17_data, Recording}
 use Rattle.ace_check.proofs.WhatComes.{lines-decide, of-one, of-two, ports-first}
 use Rattle.ace_check.proofs.Steps.{k1_kept}
 use Rattle.ace_check.proofs.shares.Shares.rule_of_beat.Goals as goal

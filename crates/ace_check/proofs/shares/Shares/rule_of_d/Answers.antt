@@ -1,10 +1,6 @@
-use Rattle.std.proofs.Common.{None, is_some, refl, sym, ap, ◌∙◌, arith}
-use Rattle.ace_event.specs.declared.event.Event.TheVariants.{D}
-use Rattle.ace_model.specs.AddressRules.{k1, k3}
-use Rattle.ace_model.specs.CacheRules.{k32, k33}
-use Rattle.ace_portck.specs.Targets.{Recording}
-use Rattle.ace_check.proofs.WhatComes.{lines-next, of-one, of-two, ports-first, system-decides}
-use Rattle.ace_model.specs.Trace.{is_some_and}
+use Rattle.std.proofs.Common.{if◌then◌else◌, None, Some, is_some, refl, sym, ap, ◌∙◌, arith}
+use Rattle.ace_check.proofs.Terms.{D, k1, k3, k32, k33, least_of, system_rules, Recording, is_some_and}
+use Rattle.ace_check.proofs.WhatComes.{first-2, lines-next, of-one, system-decides}
 use Rattle.ace_lineck.specs.Holders.{awaits_store}
 use Rattle.ace_check.proofs.Steps.{k1_kept, some-mapped}
 use Rattle.ace_check.proofs.shares.Shares.rule_of_d.Goals as goal
@@ -13,12 +9,8 @@ pub returns-in-Some-clause-least : goal.returns-in-Some-clause-least
 returns-in-Some-clause-least c = λ h past line s.
     let a = c.args in
     let e = D a.port a.addr a.strobe a.x line in
-    let k = c.in-Some.rule in
     let ports = sym c.in-Some.is ∙ c.rule_of_d.ensures (record { header = h; past = past }) a.strobe a.x line s.ports in
-    let at_most = (of-two 1 3 (k1 h past e) (k3 h past e) k (omega arith) ports).1 in
-    sym (ports-first h past e k ports
-    (λ m is. let same = of-one 32 (k32 h past e) m (sym is) in omega (arith, at_most, same))
-    (λ m is. let same = of-one 33 (k33 h past e) m (sym is) in omega (arith, at_most, same)))
+    first-2 1 3 c.in-Some.rule (k1 h past e) (k3 h past e) (if k32 h past e then least_of system_rules h past e else Some 32) ports
 
 pub returns-in-Some-rule_of_d-clause-least : goal.returns-in-Some-rule_of_d-clause-least
 returns-in-Some-rule_of_d-clause-least c = λ h past line s.

@@ -1,6 +1,5 @@
 use Rattle.std.proofs.Common.{sym, ◌∙◌}
-use Rattle.ace_event.specs.declared.event.Event.TheVariants.{Ar}
-use Rattle.ace_portck.specs.Targets.{Recording}
+use Rattle.ace_check.proofs.Terms.{Ar, Recording}
 use Rattle.ace_sysck.proofs.ByKind.ReadAddresses.{system-keeps}
 use Rattle.ace_check.proofs.Addresses.{lesser-of-two}
 use Rattle.ace_check.proofs.shares.Shares.rule_of_line_ar.Goals as goal

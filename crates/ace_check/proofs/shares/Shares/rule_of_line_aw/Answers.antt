@@ -1,9 +1,6 @@
 use Rattle.std.proofs.Common.{sym, ◌∙◌}
-use Rattle.ace_codes.specs.Writes.{aw_kind_of}
-use Rattle.ace_event.specs.declared.event.Event.TheVariants.{Aw}
-use Rattle.ace_model.specs.Kinds.{is_line_write}
+use Rattle.ace_check.proofs.Terms.{aw_kind_of, Aw, is_line_write, Recording}
 use Rattle.ace_model.proofs.General.Options.{option_filter-is}
-use Rattle.ace_portck.specs.Targets.{Recording}
 use Rattle.ace_sysck.proofs.ByKind.WriteAddresses.{system-keeps}
 use Rattle.ace_check.proofs.Addresses.{lesser-of-two}
 use Rattle.ace_check.proofs.shares.Shares.rule_of_line_aw.Goals as goal

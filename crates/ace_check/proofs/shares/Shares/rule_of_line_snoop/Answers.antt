@@ -1,8 +1,5 @@
 use Rattle.std.proofs.Common.{None, refl, sym, ◌∙◌, arith}
-use Rattle.ace_event.specs.declared.event.Event.TheVariants.{Ac}
-use Rattle.ace_model.specs.OrderRules.{k36, k39}
-use Rattle.ace_model.specs.SnoopRules.{k13}
-use Rattle.ace_portck.specs.Targets.{Recording}
+use Rattle.ace_check.proofs.Terms.{Ac, k36, k39, k13, Recording}
 use Rattle.ace_check.proofs.Snooping.{line-by-kind}
 use Rattle.ace_check.proofs.Steps.{k1_kept}
 use Rattle.ace_check.proofs.WhatComes.{lines-next, of-one, of-two, system-decides}

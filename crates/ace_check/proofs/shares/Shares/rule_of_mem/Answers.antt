@@ -1,5 +1,5 @@
 use Rattle.std.proofs.Common.{refl, sym}
-use Rattle.ace_event.specs.declared.event.Event.TheVariants.{Mem}
+use Rattle.ace_check.proofs.Terms.{Mem}
 use Rattle.ace_check.proofs.WhatComes.{ports-decide}
 use Rattle.ace_check.proofs.shares.Shares.rule_of_mem.Goals as goal
 

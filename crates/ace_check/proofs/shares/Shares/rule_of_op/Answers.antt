@@ -1,5 +1,5 @@
 use Rattle.std.proofs.Common.{refl, sym}
-use Rattle.ace_event.specs.declared.event.Event.TheVariants.{Op}
+use Rattle.ace_check.proofs.Terms.{Op}
 use Rattle.ace_check.proofs.WhatComes.{ports-decide}
 use Rattle.ace_check.proofs.shares.Shares.rule_of_op.Goals as goal
 

@@ -1,5 +1,5 @@
 use Rattle.std.proofs.Common.{sym, ◌∙◌}
-use Rattle.ace_portck.specs.Targets.{Recording}
+use Rattle.ace_check.proofs.Terms.{Recording}
 use Rattle.ace_check.proofs.shares.Shares.rule_of_r.Goals as goal
 
 pub returns-in-Err : goal.returns-in-Err

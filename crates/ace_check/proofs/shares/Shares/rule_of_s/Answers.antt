@@ -1,21 +1,14 @@
-use Rattle.std.proofs.Common.{refl, sym, ◌∙◌, arith}
-use Rattle.ace_event.specs.declared.event.Event.TheVariants.{S}
-use Rattle.ace_model.specs.AddressRules.{k1, k3}
-use Rattle.ace_model.specs.CacheRules.{k29}
-use Rattle.ace_portck.specs.Targets.{Recording}
-use Rattle.ace_check.proofs.WhatComes.{lines-decide, of-one, of-two, ports-first}
+use Rattle.std.proofs.Common.{refl, sym, ◌∙◌}
+use Rattle.ace_check.proofs.Terms.{S, k1, k3, least_of, line_rules, Recording}
+use Rattle.ace_check.proofs.WhatComes.{first-2, lines-decide}
 use Rattle.ace_check.proofs.shares.Shares.rule_of_s.Goals as goal
 
 pub returns-in-Some : goal.returns-in-Some
 returns-in-Some c = λ h past s.
     let a = c.args in
     let e = S a.port a.addr a.st in
-    let k = c.in-Some.rule in
     let ports = sym c.in-Some.is ∙ c.rule_of_s.ensures (record { header = h; past = past }) a.st s.ports in
-    let at_most = (of-two 1 3 (k1 h past e) (k3 h past e) k (omega arith) ports).1 in
-    sym (ports-first h past e k ports
-    (λ m is. let same = of-one 29 (k29 h past e) m (sym is) in omega (arith, at_most, same))
-    (λ m is. cc))
+    first-2 1 3 c.in-Some.rule (k1 h past e) (k3 h past e) (least_of line_rules h past e) ports
 
 pub returns : goal.returns
 returns c = λ h past s.

@@ -1,7 +1,5 @@
 use Rattle.std.proofs.Common.{None, refl, sym, ◌∙◌, arith}
-use Rattle.ace_event.specs.declared.event.Event.TheVariants.{W}
-use Rattle.ace_model.specs.AddressRules.{k1}
-use Rattle.ace_model.specs.Shares.{k11_burst, k11_data}
+use Rattle.ace_check.proofs.Terms.{W, k1, k11_burst, k11_data}
 use Rattle.ace_check.proofs.WhatComes.{lines-decide, of-one, of-two, ports-first}
 use Rattle.ace_check.proofs.Steps.{k1_kept}
 use Rattle.ace_check.proofs.shares.Shares.rule_of_w.Goals as goal
