@@ -4,3 +4,4 @@ pub mod LongerPlans
 pub mod Turns
 pub mod Few
 pub mod NeverStuck
+pub mod Range

@@ -14,3 +14,4 @@ pub mod MasterSteps
 pub mod LineSteps
 pub mod OrderSteps
 pub mod Steps
+pub mod Ranges

@@ -1,7 +1,7 @@
 //! Laws of runs. These functions do no work: what they promise is the law.
 
 ghost use Rattle.std.specs.Prelude.{◌≡◌, ◌↔◌, ◌≤◌, ◌<◌, ◌*◌, ◌⊎◌, ◌&&◌, ◌||◌, ℕ, true, false, List, [], ◌∷◌, Some, None, is_some, length};
-ghost use Rattle.std.specs.List.{list_any};
+ghost use Rattle.std.specs.List.{AllByRecursion, list_any};
 ghost use Rattle.ace_event.specs.declared.event.Channel.{Channel};
 ghost use Rattle.ace_event.specs.declared.event.Channel.TheVariants.{Read, Write};
 ghost use Rattle.ace_event.specs.declared.event.Event.{Event};
@@ -18,6 +18,7 @@ ghost use Rattle.ace_model.specs.Trace.{Trace, port_of};
 ghost use Rattle.ace_model.specs.Transactions.{is_complete, is_outstanding, outstanding, some_issued};
 ghost use Rattle.ace_model.specs.Plans.{Plan, IsRight};
 ghost use Rattle.ace_runs.specs.Operations.{with_more};
+ghost use Rattle.ace_runs.specs.Ranges.{IsWritable};
 ghost use Rattle.ace_runs.specs.Follows.{Done, FollowsSoFar, follows_so_far, is_done, owes_completion};
 ghost use Rattle.ace_runs.specs.LineSteps.{waits};
 ghost use Rattle.ace_runs.specs.Lean.{IsLean, is_lean};
@@ -151,6 +152,14 @@ pub fn each_event_names_a_port()
 pub fn length_is_bounded()
     ensures { (plan : Plan) (past : Trace) → IsRight plan → IsAccepted plan.header past → FollowsSoFar plan past → IsLean plan past
         → length past ≤ length plan.operations * 256 }
+{}
+
+/// Each event of a run that follows a right plan so far can be written in the version of the plan's
+/// header: its port, identifier, codes, response and number have the digits of their fields, where its
+/// address, word, strobe and line have the widths of their types.
+pub fn each_event_is_in_range()
+    ensures { (plan : Plan) (past : Trace) → IsRight plan → AreSteps plan past → FollowsSoFar plan past
+        → AllByRecursion (IsWritable plan.header.version) past }
 {}
 
 /// In a run where an AC is unanswered, its port is enabled by step 1; or the oldest unanswered snoop of the port is of a line on which

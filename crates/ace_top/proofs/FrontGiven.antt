@@ -77,7 +77,7 @@ due_or_fault ReadFault = inl refl
 due_or_fault NoMemory = inr (inl refl)
 due_or_fault answer = inr (inr tt)
 
-pub front_given : (command : Command) (bytes : List ℕ) (left last : Option (List ℕ)) (answer due : Answer) (text whole : List ℕ) → IsSettled command → IsDue due
+pub front_given : (command : Command) (bytes : List ℕ) (left last : Option (List ℕ)) (answer due : Answer) (text whole : List ℕ) → IsSettled command bytes → IsDue due
     → FitsAnswer command answer text → FitsAnswer command due whole → IsAnswer command (Some bytes) left answer text → IsAnswer command (Some bytes) last due whole
     → BeginsWith whole text
 front_given command bytes left last answer due text whole settled d f g a b =

@@ -8,6 +8,7 @@ pub mod GenerateLemmas
 pub mod Handed
 pub mod Hyphens
 pub mod Numbers
+pub mod OneScript
 pub mod OneAnswer
 pub mod OneRun
 pub mod ParseLemmas

@@ -23,6 +23,7 @@ use Rattle.ace_top.specs.Generate.{IsGenerated, script_of}
 use Rattle.ace_top.specs.Report.{IsReported}
 use Rattle.ace_top.specs.Show.{IsShown, header_written}
 use Rattle.ace_top.specs.Texts.{out_text_of}
+use Rattle.ace_top.proofs.OneScript.{one_unread, some_unread}
 use Rattle.ace_top.specs.Verdict.{IsVerdict, BeginsStopped, Stop, Breaks, GoesOver, stop_of, first_stop, first_stop_after}
 
 -- ---- verdicts
@@ -260,7 +261,7 @@ generated_due number answer text d g = absurd g
 
 -- the answer that is due, and its text, are one
 pub one_answer : (command : Command) (bytes : List ℕ) (left last : Option (List ℕ)) (answer other : Answer) (text more : List ℕ)
-    → IsSettled command → IsDue answer → IsDue other → FitsAnswer command answer text → FitsAnswer command other more
+    → IsSettled command bytes → IsDue answer → IsDue other → FitsAnswer command answer text → FitsAnswer command other more
     → IsAnswer command (Some bytes) left answer text → IsAnswer command (Some bytes) last other more → (answer ≡ other) × (text ≡ more)
 one_answer Check bytes left last answer other text more settled d o f g v w =
     let same = one_verdict bytes answer other d o v w in
@@ -272,7 +273,7 @@ one_answer (Gen number) bytes left last answer other text more settled d o f g s
     let p = generated_due number answer text d s in
     let q = generated_due number other more o t in
     (p.0 ∙ sym q.0, p.1 ∙ sym q.1)
-one_answer Run bytes left last answer other text more settled d o f g s t = absurd settled
+one_answer Run bytes left last answer other text more settled d o f g s t = one_unread bytes answer other text more settled d o f g s t
 one_answer (Trial number) bytes left last answer other text more settled d o f g s t = absurd settled
 
 fits_written : (answer : Answer) (text : List ℕ) → IsDue answer → FitsAnswer Show answer text × FitsAnswer Migrate answer text
@@ -281,7 +282,7 @@ fits_written ReadFault text d = absurd d
 fits_written answer text d = (tt, tt)
 
 -- an answer is due
-pub some_answer : (command : Command) (bytes : List ℕ) (left : Option (List ℕ)) → IsSettled command
+pub some_answer : (command : Command) (bytes : List ℕ) (left : Option (List ℕ)) → IsSettled command bytes
     → (answer : Answer) × (text : List ℕ) × IsDue answer × FitsAnswer command answer text × IsAnswer command (Some bytes) left answer text
 some_answer Check bytes left settled =
     let v = some_verdict bytes in
@@ -296,5 +297,5 @@ some_answer Migrate bytes left settled =
     let w = some_written Two bytes left in
     (w.0, w.1, w.2, (fits_written w.0 w.1 w.2).1, w.3)
 some_answer (Gen number) bytes left settled = (Generated, script_of number, tt, tt, refl)
-some_answer Run bytes left settled = absurd settled
+some_answer Run bytes left settled = some_unread bytes settled
 some_answer (Trial number) bytes left settled = absurd settled

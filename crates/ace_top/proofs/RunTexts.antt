@@ -1,23 +1,17 @@
 -- The text of a trace that a run gave, event by event.
-use Rattle.std.proofs.Common.{◌≡◌, ◌<◌, ◌+◌, ◌++◌, ℕ, zero, suc, List, [], ◌∷◌, Option, Result, Ok, Err, OnErr, take, drop, length, reverse, get_or, sym, ap, subst, ◌∙◌, append_assoc, take-append-drop, arith}
+use Rattle.std.proofs.Common.{◌≡◌, ◌<◌, ◌+◌, ◌++◌, ℕ, List, [], ◌∷◌, Option, Result, Ok, Err, OnErr, take, drop, length, reverse, get_or, sym, ap, subst, ◌∙◌, append_assoc, take-append-drop, arith}
 use Rattle.std.specs.List.{AllByRecursion}
 use Rattle.std.proofs.lemmas.Grind.{flat_map-append}
-use Rattle.std.proofs.lemmas.List.{take_more, reverse-reverse}
+use Rattle.std.proofs.lemmas.List.{take_more, reverse-append, reverse-reverse}
 use Rattle.ace_event.specs.declared.event.Event.{Event}
 use Rattle.ace_event.specs.declared.header.Header.{Header}
 use Rattle.ace_event.specs.Text.{header_text, events_text, trace_text, event_text, line_text}
-use Rattle.ace_event.specs.Range.{InRange}
+use Rattle.ace_runs.specs.Ranges.{IsWritable}
 use Rattle.ace_grammar.proofs.Readings.OneMore.{events_text-more}
 use Rattle.ace_model.specs.Trace.{Trace}
 use Rattle.ace_writer.specs.declared.writer.Writer.{Writer}
 use Rattle.ace_writer.specs.Given.{GivesFront, sink_of}
 use Rattle.ace_top.specs.Output.{AppendsPart}
-
--- what holds of all elements holds of each
-pub holds_at : {A : Type 0} (P : A → Type 0) (xs : List A) (i : ℕ) (x : A) → i < length xs → get_or xs i x ≡ x → AllByRecursion P xs → P x
-holds_at P [] i x lt is all = absurd (omega (arith, lt))
-holds_at P (y ∷ ys) zero x lt is all = subst P is all.0
-holds_at P (y ∷ ys) (suc i) x lt is all = holds_at P ys i x (omega (arith, lt)) is all.1
 
 -- the text with the line of one more event
 next_text : (version : ℕ) (text : List ℕ) (events : List Event) (count : ℕ) (e : Event) → count < length events → get_or events count e ≡ e
@@ -71,9 +65,20 @@ trace_part (Err e) h events version before now now' same is part =
 in_order : (past : Trace) (events : List Event) → reverse events ≡ past → events ≡ reverse past
 in_order past events is = sym (reverse-reverse events) ∙ ap reverse is
 
-pub run_range : (version version' : ℕ) (past : Trace) (events : List Event) → version' ≡ version → reverse events ≡ past → AllByRecursion (InRange version) (reverse past) → AllByRecursion (InRange version') events
+all-both : {A : Type 0} (P : A → Type 0) (xs ys : List A) → AllByRecursion P xs → AllByRecursion P ys → AllByRecursion P (xs ++ ys)
+all-both P [] ys first second = second
+all-both P (x ∷ xs) ys first second = (first.0, all-both P xs ys first.1 second)
+
+all-reversed : {A : Type 0} (P : A → Type 0) (xs : List A) → AllByRecursion P xs → AllByRecursion P (reverse xs)
+all-reversed P [] all = all
+all-reversed P (x ∷ xs) all =
+    subst (AllByRecursion P) (sym (reverse-append (x ∷ []) xs)) (all-both P (reverse xs) (x ∷ []) (all-reversed P xs all.1) (all.0, tt))
+
+-- so each of them can be written, as the law of runs says
+pub run_range : (version version' : ℕ) (past : Trace) (events : List Event) → version' ≡ version → reverse events ≡ past → AllByRecursion (IsWritable version) past → AllByRecursion (IsWritable version') events
 run_range version version' past events same is all =
-    subst (λ v. AllByRecursion (InRange v) events) (sym same) (subst (AllByRecursion (InRange version)) (sym (in_order past events is)) all)
+    subst (λ v. AllByRecursion (IsWritable v) events) (sym same)
+    (subst (AllByRecursion (IsWritable version)) (sym (in_order past events is)) (all-reversed (IsWritable version) past all))
 
 pub run_part : {T E : Type 0} (r : Result T E) (h header : Header) (events : List Event) (past : Trace) (before now : Option (List ℕ)) → header ≡ h → reverse events ≡ past
     → OnErr r (AppendsPart before now (trace_text header events)) → OnErr r (AppendsPart before now (trace_text h (reverse past)))

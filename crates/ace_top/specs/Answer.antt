@@ -3,6 +3,8 @@ use Rattle.std.specs.Prelude.{◌≡◌, ◌≢◌, ◌<◌, ◌≤◌, ◌-◌,
 use Rattle.std.specs.Io.KnownBytes.{Appends}
 use Rattle.std.specs.declared.alloc.Global.{Global}
 use Rattle.ace_io.specs.Faults.{Rose}
+use Rattle.ace_model.specs.Plans.{Plan}
+use Rattle.ace_script.specs.Reading.{Reads, Whole}
 use Rattle.ace_top.specs.declared.answer.Answer.{Answer}
 use Rattle.ace_top.specs.declared.answer.Answer.TheVariants.{Accepted, NoMemory, Ran, ReadFault, Reported, Usage}
 use Rattle.ace_top.specs.declared.show.Version.{Version}
@@ -52,11 +54,12 @@ IsDue ReadFault = ⊥
 IsDue NoMemory = ⊥
 IsDue answer = ⊤
 
--- a command of which the words and the input alone tell what it writes: all but those that run a script
-abbrev pub IsSettled : Command → Type 0
-IsSettled Run = ⊥
-IsSettled (Trial number) = ⊥
-IsSettled command = ⊤
+-- the words and the bytes of the input alone tell what the command writes: it runs no script, or
+-- the input isn't a whole one
+abbrev pub IsSettled : Command → List ℕ → Type 0
+IsSettled Run bytes = (plan : Plan) → Reads bytes plan Whole → ⊥
+IsSettled (Trial number) bytes = ⊥
+IsSettled command bytes = ⊤
 
 -- The status is that of an answer of the command, and its texts were appended to the two outputs, whether or not the input
 -- tells its bytes.

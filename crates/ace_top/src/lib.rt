@@ -9,7 +9,6 @@ mod generate;
 pub mod laws;
 mod output;
 mod parse;
-mod range;
 mod run;
 mod show;
 mod top;

@@ -1,12 +1,13 @@
 // Runs a script, and writes the trace of the run.
-ghost use Rattle.std.specs.Prelude.{◌≡◌, ◌≢◌, ◌++◌, ◌⊎◌, ℕ, List, Option, false, is_err, reverse, IfOk, IsTrue, IfErr, OnOk, OnErr, IfSome};
+ghost use Rattle.std.specs.Prelude.{◌≡◌, ◌≢◌, ◌++◌, ◌⊎◌, ℕ, List, Option, false, is_err, reverse, IfOk, IfErr, OnOk, OnErr, IfSome};
 ghost use Rattle.std.specs.Io.KnownBytes.{Appends, IsAtEnd};
 ghost use Rattle.std.specs.List.{AllByRecursion};
 ghost use Rattle.ace_event.specs.Ports.{IsHeader};
-ghost use Rattle.ace_event.specs.Range.{InRange};
+ghost use Rattle.ace_event.specs.Range.{IsAddress};
 ghost use Rattle.ace_event.specs.Text.{events_text, trace_text};
 ghost use Rattle.ace_io.specs.Faults.{HasCause};
 ghost use Rattle.ace_runs.specs.Follows.{Done};
+ghost use Rattle.ace_runs.specs.Ranges.{FitsTypes, IsWritable};
 ghost use Rattle.ace_script.specs.Errors.{HasNoPlan};
 ghost use Rattle.ace_script.specs.Grammar.{IsScript};
 ghost use Rattle.ace_script.specs.Reading.{Reads, Whole};
@@ -18,21 +19,43 @@ ghost use Rattle.ace_top.specs.declared.words.Command.TheVariants as command;
 
 use crate::answer::{Answer, plan_answer};
 use crate::output::{break_off, conclude};
-use crate::range::are_in_range;
+use ace_event::laws::every_event_fits;
 use ace_event::{Event, Header};
 use ace_fabric::System;
 use ace_io::{Gate, NoMemory, Sink, Source};
 use ace_run::run_threads;
+use ace_runs::laws::each_event_is_in_range;
 use ace_script::{Plan, PlanErr};
 use ace_writer::{WriteErr, Writer};
 use std::alloc::Global;
 use std::sync::Wait;
 use std::thread::Threads;
 
+fn address_fits(addr: u32)
+    ensures { IsAddress addr }
+{}
+
+/// What the types of the event's fields give.
+fn types_fit(event: &Event)
+    ensures { FitsTypes event.now }
+{
+    every_event_fits(*event);
+    match event {
+        Event::Ar { addr, .. }
+        | Event::Aw { addr, .. }
+        | Event::Ac { addr, .. }
+        | Event::S { addr, .. }
+        | Event::L { addr, .. }
+        | Event::D { addr, .. }
+        | Event::Mem { addr, .. } => address_fits(*addr),
+        _ => {}
+    }
+}
+
 /// Adds the lines of the events to the text of the writer.
 #[tactic(auto, using(crate::proofs::RunTexts::events))]
 fn put_events<K: Sink>(writer: &mut Writer<K>, events: &[Event]) -> Result<(), WriteErr>
-    requires range { AllByRecursion (InRange (version_of writer.old)) events.now }
+    requires range { AllByRecursion (IsWritable (version_of writer.old)) events.now }
     requires unfailed { has_failed writer.old ≡ false }
     ensures same_sink { (sink_of writer.new).ghost_name ≡ (sink_of writer.old).ghost_name }
     ensures text { (before : Option (List ℕ)) (text : List ℕ) → GivesFront K.held before text writer.old
@@ -43,6 +66,7 @@ fn put_events<K: Sink>(writer: &mut Writer<K>, events: &[Event]) -> Result<(), W
     ensures cause { HasCause (K.faults (sink_of writer.old).now) (K.faults (sink_of writer.new).now) result }
 {
     for event in events {
+        types_fit(event);
         match writer.put(event) {
             Ok(()) => {}
             Err(fault) => return Err(fault),
@@ -54,7 +78,7 @@ fn put_events<K: Sink>(writer: &mut Writer<K>, events: &[Event]) -> Result<(), W
 /// Adds the lines of the events to the text of the writer, and gives all of it.
 #[tactic(auto, using(crate::proofs::RunTexts::events))]
 fn give_events<K: Sink>(writer: &mut Writer<K>, events: &[Event]) -> Result<(), WriteErr>
-    requires range { AllByRecursion (InRange (version_of writer.old)) events.now }
+    requires range { AllByRecursion (IsWritable (version_of writer.old)) events.now }
     requires unfailed { has_failed writer.old ≡ false }
     ensures same_sink { (sink_of writer.new).ghost_name ≡ (sink_of writer.old).ghost_name }
     ensures whole { (before : Option (List ℕ)) (text : List ℕ) → GivesFront K.held before text writer.old
@@ -73,7 +97,7 @@ fn give_events<K: Sink>(writer: &mut Writer<K>, events: &[Event]) -> Result<(), 
 #[tactic(auto, using(crate::proofs::RunTexts::events))]
 fn put_trace<K: Sink>(header: &Header, events: &[Event], out: &mut K) -> Result<(), WriteErr>
     requires header { IsHeader header.now }
-    requires range { AllByRecursion (InRange header.now.version) events.now }
+    requires range { AllByRecursion (IsWritable header.now.version) events.now }
     ensures whole { OnOk result (Appends (K.held out.old) (K.held out.new) (trace_text header.now events.now)) }
     ensures part { OnErr result (AppendsPart (K.held out.old) (K.held out.new) (trace_text header.now events.now)) }
     ensures cause { HasCause (K.faults out.old) (K.faults out.new) result }
@@ -90,18 +114,18 @@ pub fn is_run(system: &System)
     system.keeps();
 }
 
-/// Whether the trace can be written.
-fn is_writable(system: &System) -> bool
-    ensures { IsTrue result → AllByRecursion (InRange system.now.plan.header.version) (reverse system.now.past) }
+/// The events of a run can be written.
+fn are_writable(system: &System)
+    ensures { AllByRecursion (IsWritable system.now.plan.header.version) system.now.past }
 {
-    are_in_range(system.plan().view().header().version, system.trace())
+    system.keeps();
+    each_event_is_in_range();
 }
 
 /// Writes the trace of a run.
 #[tactic(auto, using(crate::proofs::RunTexts::events))]
 fn write_run<K: Sink>(system: &System, out: &mut K) -> Result<(), WriteErr>
     requires done { Done system.now.plan system.now.past }
-    requires range { AllByRecursion (InRange system.now.plan.header.version) (reverse system.now.past) }
     ensures script { IsScript system.now.plan }
     ensures run { IsRunOf system.now.plan system.now.past }
     ensures whole { OnOk result (Appends (K.held out.old) (K.held out.new) (trace_text system.now.plan.header (reverse system.now.past))) }
@@ -109,6 +133,7 @@ fn write_run<K: Sink>(system: &System, out: &mut K) -> Result<(), WriteErr>
     ensures cause { HasCause (K.faults out.old) (K.faults out.new) result }
 {
     is_run(system);
+    are_writable(system);
     let header = system.plan().view().header();
     put_trace(&header, system.trace(), out)
 }
@@ -116,7 +141,6 @@ fn write_run<K: Sink>(system: &System, out: &mut K) -> Result<(), WriteErr>
 /// Writes the trace of a run, of which there is no more use.
 fn put_run<K: Sink>(system: System, out: &mut K) -> Result<(), WriteErr>
     requires done { Done system.plan system.past }
-    requires range { AllByRecursion (InRange system.plan.header.version) (reverse system.past) }
     ensures script { IsScript system.plan }
     ensures run { IsRunOf system.plan system.past }
     ensures whole { OnOk result (Appends (K.held out.old) (K.held out.new) (trace_text system.plan.header (reverse system.past))) }
@@ -137,7 +161,6 @@ fn run<R: Threads + Wait + Sync, S: Source, G: Gate + Sync>(
 ) -> Result<System, PlanErr>
     ensures done { IfOk result (λ s. Done s.plan s.past) }
     ensures script { IfOk result (λ s. IfSome (S.left input.old) (λ bytes. Reads bytes s.plan Whole)) }
-    ensures range { IfOk result (λ s. AllByRecursion (InRange s.plan.header.version) (reverse s.past)) }
     ensures end { OnOk result (IsAtEnd (S.left input.new)) }
     ensures steady { OnOk result (S.faults input.new ≡ S.faults input.old) }
     ensures none { IfErr result (λ error. HasNoPlan error (S.left input.old) (S.faults input.old) (S.faults input.new)) }
@@ -147,14 +170,7 @@ fn run<R: Threads + Wait + Sync, S: Source, G: Gate + Sync>(
             let ran = run_threads(rt, alloc, &plan, gate);
             drop(plan);
             match ran {
-                Ok(system) => {
-                    if is_writable(&system) {
-                        Ok(system)
-                    } else {
-                        drop(system);
-                        Err(PlanErr::NoMemory)
-                    }
-                }
+                Ok(system) => Ok(system),
                 Err(NoMemory) => Err(PlanErr::NoMemory),
             }
         }
