@@ -28,3 +28,5 @@ pub mod WholeAfter
 pub mod FewParts
 -- The burst that forwards a message is a step.
 pub mod ForwardSteps
+-- The first part of a message that is the next for some port is outstanding.
+pub mod StillOut

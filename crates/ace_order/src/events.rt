@@ -1,6 +1,7 @@
 //! What the engine puts.
 
 ghost use Rattle.std.specs.Prelude.{◌≡◌, ◌||◌, ◌∷◌, []};
+ghost use Rattle.std.specs.List.{list_any};
 ghost use Rattle.ace_event.specs.declared.event.Event.TheVariants.{B};
 ghost use Rattle.ace_model.specs.Messages.{is_dvm_completion, is_message_part};
 ghost use Rattle.ace_runs.specs.OrderSteps.{plain_transfer, sync_completion};
@@ -10,6 +11,7 @@ use ace_codes::{ArKind, SnoopKind, ac_code};
 use ace_event::Event;
 use ace_model::Transaction;
 use ace_model::kinds::read_kind;
+use ace_portck::Progress;
 
 /// A part of a DVM message, or a DVM Complete.
 pub fn is_dvm(read: &Transaction) -> bool
@@ -26,6 +28,13 @@ pub fn is_message_part(read: &Transaction) -> bool
     ensures { result ≡ is_message_part read.now }
 {
     matches!(read_kind(read), Some(ArKind::DvmMessage))
+}
+
+/// One of the reads is a part of a DVM message.
+pub fn has_message_part(reads: &[Progress]) -> bool
+    ensures { result ≡ list_any (λ x. is_message_part x.transaction) reads.now }
+{
+    reads.iter().any(|x| is_message_part(&x.transaction))
 }
 
 /// The one transfer of a read without a line.

@@ -1,6 +1,7 @@
 //! The engine of barriers and DVM.
 
 ghost use Rattle.std.specs.Prelude.{◌≡◌, ◌<◌, ◌≤◌, ◌∷◌, ◌++◌, ℕ, true, false, [], List, Some, None, IfOk, length, is_none, slice_get};
+ghost use Rattle.std.specs.Option.{option_map};
 ghost use Rattle.ace_event.specs.declared.event.Channel.TheVariants.{Read};
 ghost use Rattle.ace_model.specs.declared.transactions.Transaction.{Transaction};
 ghost use Rattle.ace_model.specs.Accepted.{least_of};
@@ -21,7 +22,8 @@ ghost use Rattle.ace_order.specs.Messages.{forwards_to, is_next_for, next_for};
 ghost use Rattle.ace_order.specs.Order.{IsAnswerable, IsCurrent, IsForwardable, IsRespondable, IsTurn, OrderStands};
 
 use crate::events::{
-    forwarding, is_dvm, is_message_part, plain_transfer, response, sync_completion,
+    forwarding, has_message_part, is_dvm, is_message_part, plain_transfer, response,
+    sync_completion,
 };
 use ace_codes::SnoopKind;
 use ace_engine::{Burst, Engine};
@@ -151,6 +153,18 @@ impl Order {
         }
     }
 
+    /// The port that sends the DVM message that this port gets next.
+    fn next_sender(&self, port: u8) -> Option<u8>
+        ensures { (plan : Plan) (past : Trace) → IsCurrent self.now plan past
+            → result ≡ option_map (λ (m : Message). m.first.port) (next_for plan.header past port) }
+    {
+        if is_ace(&self.header, port) {
+            self.system.next_sender(port)
+        } else {
+            None
+        }
+    }
+
     /// The message is the one that the port gets next.
     fn is_next(&self, port: u8, message: &Message) -> bool
         ensures { (plan : Plan) (past : Trace) → IsCurrent self.now plan past → result ≡ is_next_for plan.header past message.now port }
@@ -161,15 +175,18 @@ impl Order {
         }
     }
 
-    /// A message of the port that is the next for some port.
+    /// A message of the port that is the next for some port: then a part of it is outstanding.
     fn forwardable(&self, port: u8) -> Option<Message>
         ensures some { (m : Message) → result ≡ Some m → (plan : Plan) (past : Trace) → OrderStands self.now plan past → IsForwardable plan.header past port m }
         ensures none { result ≡ None → (plan : Plan) (past : Trace) → OrderStands self.now plan past → may_forward plan.header past port ≡ false }
     {
+        if !has_message_part(self.ports.reads(port)) {
+            return None;
+        }
         for q in 0..self.header.ports {
-            if let Some(message) = self.next_message(q) {
-                if message.first.port == port {
-                    return Some(message);
+            if let Some(sender) = self.next_sender(q) {
+                if sender == port {
+                    return self.next_message(q);
                 }
             }
         }
