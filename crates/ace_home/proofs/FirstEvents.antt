@@ -2,10 +2,11 @@
 use Rattle.std.proofs.Common.{◌≡◌, ℕ, zero, suc, ◌<◌, Bool, true, false, not, ◌&&◌, ◌==◌, if◌then◌else◌, List, [], ◌∷◌, ◌++◌, map, Some, None, is_none, refl, sym, ap, subst, ◌∙◌, inl, inr, arith}
 use Rattle.std.specs.List.{list_any}
 use Rattle.std.specs.Option.{option_map, option_to_list}
-use Rattle.std.proofs.lemmas.Bool.{and_from, and_parts, cases_Bool, false_from_ne_true, not-true}
+use Rattle.std.proofs.lemmas.Bool.{and_from, and_parts, cases_Bool, eqb-true, false_from_ne_true, not-true}
 use Rattle.ace_codes.specs.declared.kind.AwKind.{AwKind}
 use Rattle.ace_codes.specs.declared.kind.AwKind.TheVariants as write
 use Rattle.ace_codes.specs.declared.kind.SnoopKind.{SnoopKind}
+use Rattle.ace_codes.specs.Snoops.{ac_code}
 use Rattle.ace_event.specs.declared.event.Channel.TheVariants.{Read, Write}
 use Rattle.ace_event.specs.declared.event.Event.{Event}
 use Rattle.ace_event.specs.declared.event.Event.TheVariants.{M, R}
@@ -14,26 +15,32 @@ use Rattle.ace_event.specs.declared.line.Line.{Line}
 use Rattle.ace_model.specs.declared.transactions.Transaction.{Transaction}
 use Rattle.ace_model.specs.Accepted.{IsAccepted, least_broken}
 use Rattle.ace_model.specs.Grants.{granted, has_grant, has_passed_data, is_granted, ports_below}
-use Rattle.ace_model.specs.Kinds.{has_write_data, is_granted_write}
+use Rattle.ace_model.specs.Exclusives.{has_failed}
+use Rattle.ace_model.specs.Kinds.{has_write_data, is_granted_write, is_line_snoop}
 use Rattle.ace_model.specs.ReadRules.{is_due, is_next_transfer, may_transfer}
 use Rattle.ace_model.specs.Replies.{passed_data}
+use Rattle.ace_model.specs.Snoops.{snoops_a_line}
 use Rattle.ace_model.specs.States.{are_snoops_done}
 use Rattle.ace_model.specs.Trace.{Trace, implies, is_some_and}
 use Rattle.ace_model.specs.Transactions.{is_line, is_read, outstanding, read_kind, snoop_of, takes_grant, transfers, write_kind}
 use Rattle.ace_model.specs.WriteRules.{data_of, data_of_write, may_write_data, may_write_memory, may_write_passed}
 use Rattle.ace_model.specs.Writes.{has_memory_write, is_burst_whole}
 use Rattle.ace_model.proofs.General.Booleans.{else_of}
-use Rattle.ace_model.proofs.General.Options.{is_some_and-at, some_if-is}
+use Rattle.ace_model.proofs.General.Options.{is_some_and-at, is_some_and-is, some_if-is}
 use Rattle.ace_model.proofs.GrantLooks.Had.{takes-line}
 use Rattle.ace_model.proofs.Grants.Granted.{data_may, granted_given, granted_write, has_passed, updates_ungranted}
 use Rattle.ace_model.proofs.Rules.Keeps.{accepted_keeps}
+use Rattle.ace_model.proofs.Tables.ReadSnoops.{kind_of_code}
 use Rattle.ace_runs.specs.Bursts.{is_kept}
 use Rattle.ace_runs.specs.LineSteps.{grant_burst, is_first_to_wait, is_last_beat, memory_write, next_word, passed_burst, response, response_bits, snoop_for, takes_dirt, transfer_burst, write_burst}
 use Rattle.ace_runs.proofs.Accepting.{kept-breaks-none}
+use Rattle.ace_runs.proofs.NeverStuck.Forwarding.Steps.{caused-line}
 use Rattle.ace_runs.proofs.NeverStuck.Transactions.PassedDataMove.{passed-there}
 use Rattle.ace_runs.proofs.NeverStuck.Updates.UpdatesMove.{data-there}
 use Rattle.ace_portck.specs.declared.target.WriteData.{WriteData}
 use Rattle.ace_portck.specs.Targets.{data_of_write as data_sent}
+use Rattle.ace_lineck.specs.Waiting.{has_unsnooped, is_answering}
+use Rattle.ace_lineck.proofs.WaitingLooks.{answering-transfer, answering-undone, snooped-snoop, some-found}
 use Rattle.ace_home.specs.Home.{IsOf, grant_of}
 use Rattle.ace_home.specs.Services.{first_kept, has_snoop, if_kept}
 use Rattle.ace_home.proofs.Outstanding.{granted-line, out-own, ungranted}
@@ -57,7 +64,7 @@ either-none h past false e rest f = refl
 is-first : (h : Header) (past : Trace) (b : Bool) (e : Event) (rest : List Event) → b ≡ true → first_kept h past (if b then e ∷ rest else []) ≡ if_kept h past e
 is-first h past b e rest t = ap (λ v. first_kept h past (if v then e ∷ rest else [])) t
 
-none-below : (n : ℕ) (test : ℕ → Bool) → ((q : ℕ) → q < n → test q ≡ false) → list_any test (ports_below n) ≡ false
+pub none-below : (n : ℕ) (test : ℕ → Bool) → ((q : ℕ) → q < n → test q ≡ false) → list_any test (ports_below n) ≡ false
 none-below zero test none = refl
 none-below (suc n) test none =
     let here = none n (omega arith) in
@@ -111,6 +118,25 @@ module _ (h : Header) (past : Trace) (a : IsAccepted h past) (p : ℕ) (x : Tran
       off : (b : Bool) → (b && false) ≡ false
       off true = refl
       off false = refl
+
+  -- where each ACE port was snooped, or it has begun
+  pub snoop-over : has_unsnooped h past x.addr ≡ false → has_snoop h past x ≡ false
+  snoop-over over =
+      false_from_ne_true (has_snoop h past x) (λ t.
+      let some = (and_parts (is_granted h past x) (is_some_and (snoop_of x) (λ k. list_any (λ q. is_kept h past (snoop_for x k q)) (ports_below h.ports))) t).1 in
+      let k = is_some_and-is (snoop_of x) (λ k. list_any (λ q. is_kept h past (snoop_for x k q)) (ports_below h.ports)) some in
+      let q = some-found h.ports (λ q. is_kept h past (snoop_for x k.0 q)) k.2 in
+      let line : snoops_a_line (ac_code k.0) ≡ true = ap (λ o. is_some_and o is_line_snoop) (kind_of_code k.0) ∙ caused-line x k.0 k.1 in
+      absurd (snooped-snoop h past a q.0 x.addr (ac_code k.0) line over (kept-breaks-none h past (snoop_for x k.0 q.0) q.1)))
+
+  -- ---- answers that aren't whole ----
+
+  -- whether it is held up by them
+  held-parts : (n : ℕ) → ((n == 0) && not x.lock && is_answering h past x.addr) ≡ true → (n ≡ 0) × (has_failed past x ≡ false) × (is_answering h past x.addr ≡ true)
+  held-parts n t =
+      let two = and_parts ((n == 0) && not x.lock) (is_answering h past x.addr) t in
+      let one = and_parts (n == 0) (not x.lock) two.0 in
+      let free = not-true x.lock one.1 in (eqb-true n 0 one.0, rw free refl, two.1)
 
   -- ---- passed data ----
 
@@ -206,6 +232,16 @@ module _ (h : Header) (past : Trace) (a : IsAccepted h past) (p : ℕ) (x : Tran
       let reads : is_read x.chan ≡ true = rw chan refl in
       is-first h past may-answer transfer [] (and_from _ _ (and_from _ _ reads (takes-line x g.kind)) fits)
 
+  pub transfer-held : x.chan ≡ Read → has_grant past x.port x.chan x.id ≡ true → (n : ℕ) → n ≡ transfers past x.port x.id
+      → ((n == 0) && not x.lock && is_answering h past x.addr) ≡ true → first_kept h past (transfer_burst h past x) ≡ None
+  transfer-held chan had n count held =
+      let g = granted-line h past a p x o had in
+      let parts = held-parts n held in
+      let out : outstanding h past x.port Read x.id ≡ Some x = subst (λ c. outstanding h past x.port c x.id ≡ Some x) chan (out-own h past a p x o) in
+      either-none h past may-answer transfer [] (λ _. false_from_ne_true (is_kept h past transfer) (λ kept.
+      answering-transfer h past a x.port x.id (response_bits h past x) (is_last_beat past x) (next_word past x) x out (takes-line x (granted_given h past a x.addr x g).kind) g parts.1
+      (sym count ∙ parts.0) parts.2 (kept-breaks-none h past transfer kept)))
+
   -- ---- writes ----
 
   abbrev writes-line : Bool
@@ -246,6 +282,19 @@ module _ (h : Header) (past : Trace) (a : IsAccepted h past) (p : ℕ) (x : Tran
       let how = (data_may h past x (ap (λ b. if b then may_write_passed h past x else may_write_data h past x) writes ∙ may) writes).how in
       elim how [
         | inl due ↦ let g = (and_parts (is_granted h past x) (are_snoops_done h past x) due).0 in cc
+        | inr update ↦ updates_ungranted x takes writes (and_parts _ _ update).0
+      ])
+
+  pub write-held : x.chan ≡ Write → has_grant past x.port x.chan x.id ≡ true → (n : ℕ) → ((n == 0) && not x.lock && is_answering h past x.addr) ≡ true
+      → first_kept h past (write_burst h past x) ≡ None
+  write-held chan had n held =
+      let writes : is_read x.chan ≡ false = rw chan refl in
+      let parts = held-parts n held in
+      let undone = answering-undone h past a x (granted-line h past a p x o had) parts.1 parts.2 in
+      none-written chan (λ may takes.
+      let how = (data_may h past x (ap (λ b. if b then may_write_passed h past x else may_write_data h past x) writes ∙ may) writes).how in
+      elim how [
+        | inl due ↦ let done = (and_parts (is_granted h past x) (are_snoops_done h past x) due).1 in let bad : false ≡ true = sym undone ∙ done in cc
         | inr update ↦ updates_ungranted x takes writes (and_parts _ _ update).0
       ])
 

@@ -1,5 +1,5 @@
 -- What the engine keeps, as its looks see it.
-use Rattle.std.proofs.Common.{◌≡◌, ℕ, ◌<◌, Bool, List, length, map, Some, slice_get, slice_index_or, sym, ap, subst, ◌∙◌}
+use Rattle.std.proofs.Common.{◌≡◌, ℕ, ◌<◌, Bool, true, List, length, map, Option, Some, slice_get, slice_index_or, sym, ap, subst, ◌∙◌}
 use Rattle.ace_event.specs.declared.event.Channel.{Channel}
 use Rattle.ace_event.specs.declared.event.Channel.TheVariants.{Read, Write}
 use Rattle.ace_model.specs.declared.transactions.Transaction.{Transaction}
@@ -11,6 +11,7 @@ use Rattle.ace_portck.specs.declared.target.Progress.{Progress}
 use Rattle.ace_portck.specs.Stands as ports
 use Rattle.ace_lineck.specs.declared.lines.LineCheck.{LineCheck}
 use Rattle.ace_lineck.specs.Stands as lines
+use Rattle.ace_lineck.specs.Stands.{place_on}
 use Rattle.ace_sysck.specs.declared.system.SysCheck.{SysCheck}
 use Rattle.ace_sysck.specs.Stands as system
 use Rattle.ace_portck.specs.Pending.{pending_of}
@@ -18,7 +19,7 @@ use Rattle.ace_portck.specs.Targets.{Recording, progress_of}
 use Rattle.ace_model.proofs.General.Options.{Some-injective}
 use Rattle.ace_engine.proofs.Listed.{listed-at}
 use Rattle.ace_home.specs.declared.home.Home.{Home}
-use Rattle.ace_home.specs.Home.{HomeStands, IsOf, Tells}
+use Rattle.ace_home.specs.Home.{HomeStands, IsOf, IsServed, Tells}
 use Rattle.ace_home.proofs.Outstanding.{of-channel}
 
 abbrev pub recording : Plan → Trace → Recording
@@ -37,6 +38,16 @@ system-stand s plan past k stands is = subst (λ v. system.Stands v (recording p
 pub had : (s : Home) (plan : Plan) (past : Trace) (p : ℕ) (x : Progress) (b : Bool) → Tells s plan past p x → x.granted ≡ b
     → has_grant past x.transaction.port x.transaction.chan x.transaction.id ≡ b
 had s plan past p x b t is = ap (λ (v : Progress). v.granted) (sym t.is) ∙ is
+
+-- a granted one that is served
+pub had-served : (s : Home) (plan : Plan) (past : Trace) (p : ℕ) (place : Option ℕ) (x : Progress) → IsServed s plan past p place x
+    → has_grant past x.transaction.port x.transaction.chan x.transaction.id ≡ true
+had-served s plan past p place x v = had s plan past p x true v.tells v.granted
+
+-- the place of its line in what is kept of the lines
+pub place-served : (s : Home) (plan : Plan) (past : Trace) (p : ℕ) (place : Option ℕ) (x : Progress) (k : LineCheck) → IsServed s plan past p place x → k ≡ s.shares.lines
+    → place ≡ place_on k (Some x.transaction.addr)
+place-served s plan past p place x k v is = v.at ∙ ap (λ l. place_on l (Some x.transaction.addr)) (sym is)
 
 pub of-each-channel : (P : Channel → Type 0) → P Read → P Write → (c : Channel) → P c
 of-each-channel P r w Read = r

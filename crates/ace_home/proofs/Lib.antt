@@ -4,6 +4,12 @@ pub mod Outstanding
 pub mod Waiting
 -- The first event of each burst, where it breaks no rule.
 pub mod FirstEvents
+-- A header of version 1 has few ports.
+pub mod FewPorts
+-- Snoops for one transaction, one after the other.
+pub mod Snoops
+-- The first of the steps that are due.
+pub mod Firsts
 -- What serves a transaction is a step.
 pub mod Serving
 -- The shares may hear the next event.

@@ -1,15 +1,15 @@
 -- What serves a transaction is a step, and the traces with its events are ones for which an engine may stand.
-use Rattle.std.proofs.Common.{◌≡◌, ℕ, Bool, true, false, not, ◌&&◌, ◌||◌, nat_lt, if◌then◌else◌, List, [], ◌∷◌, ◌++◌, map, Option, Some, None, refl, sym, ap, subst, ◌∙◌, inl, inr}
+use Rattle.std.proofs.Common.{◌≡◌, ℕ, Bool, true, false, not, ◌&&◌, ◌||◌, ◌≤◌, ◌<◌, nat_le, if◌then◌else◌, List, [], ◌∷◌, ◌++◌, length, map, Option, Some, None, refl, sym, ap, subst, ◌∙◌, inl, inr, arith}
 use Rattle.std.specs.List.{list_all, list_any}
 use Rattle.std.specs.Option.{option_to_list}
-use Rattle.std.proofs.lemmas.Bool.{and_from, and_parts, cases_Bool, eq-eqb, false_from_ne_true, ltb-true, not-true, or_left, or_right}
+use Rattle.std.proofs.lemmas.Bool.{and_from, and_parts, cases_Bool, eq-eqb, false_from_ne_true, le-leb, not-true, or_left, or_right}
 use Rattle.ace_codes.specs.declared.kind.AwKind.{AwKind}
 use Rattle.ace_codes.specs.declared.kind.AwKind.TheVariants as write
-use Rattle.ace_codes.specs.Snoops.{ac_code}
+use Rattle.ace_codes.specs.declared.kind.SnoopKind.{SnoopKind}
 use Rattle.ace_event.specs.declared.event.Channel.{Channel}
 use Rattle.ace_event.specs.declared.event.Channel.TheVariants.{Read, Write}
 use Rattle.ace_event.specs.declared.event.Event.{Event}
-use Rattle.ace_event.specs.declared.event.Event.TheVariants.{Ac, B, G, M, R}
+use Rattle.ace_event.specs.declared.event.Event.TheVariants.{B, G, M, R}
 use Rattle.ace_event.specs.declared.header.Header.{Header}
 use Rattle.ace_event.specs.declared.line.Line.{Line}
 use Rattle.ace_model.specs.declared.transactions.Transaction.{Transaction}
@@ -21,27 +21,30 @@ use Rattle.ace_model.specs.Trace.{Trace, implies, is_some_and}
 use Rattle.ace_model.specs.Transactions.{is_complete, is_line, is_read, outstanding, read_kind, same_channel, snoop_of, takes_grant, write_kind}
 use Rattle.ace_model.specs.WriteRules.{data_of, data_of_write, may_write_memory}
 use Rattle.ace_model.specs.Writes.{has_memory_write}
-use Rattle.ace_model.proofs.General.Options.{is_some_and-at}
-use Rattle.ace_model.proofs.General.Ports.{none_at}
+use Rattle.ace_model.proofs.General.Options.{Some-injective, is_some_and-at, is_some_and-is}
 use Rattle.ace_model.proofs.Grants.Granted.{data_may, granted_write}
 use Rattle.ace_model.proofs.Rules.Keeps.{accepted_keeps}
 use Rattle.ace_model.proofs.Trace.WriteQueue.{done_write}
-use Rattle.ace_runs.specs.Bursts.{is_kept, may_begin, may_serve, serves}
+use Rattle.ace_runs.specs.Bursts.{is_kept, may_begin, may_serve, onto, serves}
 use Rattle.ace_runs.specs.LineSteps.{grant_burst, gives_snoops, is_first_to_wait, is_last_beat, is_snoop_for, may_snoop, memory_write, next_word, passed_burst, response, response_bits, snoop_for, takes_dirt, transfer_burst, write_burst}
 use Rattle.ace_runs.specs.SameEvents.{same_burst}
 use Rattle.ace_runs.specs.Steps.{is_enabled_by, is_sound, is_step_by}
 use Rattle.ace_runs.proofs.Accepting.{kept-breaks-none}
 use Rattle.ace_model.proofs.Trace.IssuedTransactions.{issuer-low}
 use Rattle.ace_runs.proofs.NeverStuck.Steps.SameBursts.{burst-self}
-use Rattle.ace_runs.proofs.NeverStuck.Steps.SameEvents.{event-self}
 use Rattle.ace_runs.proofs.NeverStuck.Updates.EvictsMove.{may-answer-evict, response-kept}
 use Rattle.ace_runs.proofs.NeverStuck.Updates.UpdatesMove.{data-there}
 use Rattle.ace_engine.specs.Engines.{IsLegal}
 use Rattle.ace_engine.proofs.OfInterconnect.{legal-with}
 use Rattle.ace_home.specs.declared.service.Service.{Service}
 use Rattle.ace_home.specs.declared.service.Service.TheVariants as service
-use Rattle.ace_home.specs.Home.{IsOf}
-use Rattle.ace_home.specs.Services.{IsService, IsSnoop, ServesNone, burst_of, first_kept, first_of, has_snoop, responds}
+use Rattle.ace_home.specs.Home.{HomeStands, IsOf}
+use Rattle.ace_home.specs.declared.home.Home.{Home}
+use Rattle.ace_home.specs.Services.{IsService, TakesNoneBelow, all_steps, are_snoops, first_kept, first_of, gives_for, has_snoop, number_of, responds}
+use Rattle.ace_home.specs.declared.due.Due.{Due}
+use Rattle.ace_home.specs.Turns.{AreSnoops, IsDue, IsFirst, IsLeastStep, IsServing, lesser_steps}
+use Rattle.ace_home.proofs.FewPorts.{few-ports}
+use Rattle.ace_home.proofs.Snoops.{no-snoop-left}
 use Rattle.ace_home.proofs.FirstEvents.{kept-some}
 use Rattle.ace_home.proofs.Outstanding.{none-passes, of-at, out-own, some-passes}
 
@@ -75,12 +78,6 @@ granted-no-barrier k g = cc
 same-channel : (c : Channel) → same_channel c c ≡ true
 same-channel Read = refl
 same-channel Write = refl
-
-some-below : (n : ℕ) (test : ℕ → Bool) (q : ℕ) → nat_lt q n ≡ true → test q ≡ true → list_any test (ports_below n) ≡ true
-some-below n test q low t = elim (cases_Bool (list_any test (ports_below n))) [
-  | inl some ↦ some
-  | inr none ↦ let no = none_at n test q none (ltb-true q n low) in cc
-]
 
 -- the M that begins the burst of a granted write
 record Written (h : Header) (past : Trace) (x : Transaction) (e : Event) : Type 0 where
@@ -135,21 +132,23 @@ module _ (plan : Plan) (past : Trace) (legal : IsLegal plan past) (p : ℕ) (x :
   legal-of : (d e : Event) → d ≡ e → IsLegal plan (d ∷ past) → IsLegal plan (e ∷ past)
   legal-of d e same l = subst (λ v. IsLegal plan (v ∷ past)) same l
 
-  pub legal-first : (s : Service) → IsService h past x s → IsLegal plan (first_of s ∷ past)
-  legal-first (service.Grant e) is = let g = grant-is e is in legal-of (G x.port x.chan x.id) e g.1 (legal-with plan past (G x.port x.chan x.id) refl legal g.0)
-  legal-first (service.Snoop e) is =
-      let ac = Ac is.port x.addr (ac_code is.kind) in
-      let kept : is_kept h past ac ≡ true = subst (λ d. is_kept h past d ≡ true) is.is is.kept in
-      legal-of ac e (sym is.is) (legal-with plan past ac refl legal kept)
-  legal-first (service.Passed e) is =
-      let m = passed-is e is in
-      let kept : is_kept h past (M x.port x.chan x.id m.0) ≡ true = subst (λ d. is_kept h past d ≡ true) m.2 m.1 in
-      legal-of (M x.port x.chan x.id m.0) e (sym m.2) (legal-with plan past (M x.port x.chan x.id m.0) refl legal kept)
-  legal-first (service.Transfer e) is = let r = transfer-is e is in legal-of transfer e r.1 (legal-with plan past transfer refl legal r.0)
-  legal-first (service.Write e) is =
-      let w = written h past x e is in
-      let kept : is_kept h past (M x.port x.chan x.id w.line) ≡ true = subst (λ d. is_kept h past d ≡ true) w.is w.kept in
-      legal-of (M x.port x.chan x.id w.line) e (sym w.is) (legal-with plan past (M x.port x.chan x.id w.line) refl legal kept)
+  pub legal-first : (s : Service) (d : Event) → first_of s ≡ Some d → IsService h past x s → IsLegal plan (d ∷ past)
+  legal-first s d first is = by s first is
+    where
+      by : (s : Service) → first_of s ≡ Some d → IsService h past x s → IsLegal plan (d ∷ past)
+      by (service.Grant e) first is =
+          let g = grant-is e is in
+          legal-of (G x.port x.chan x.id) d (g.1 ∙ Some-injective e d first) (legal-with plan past (G x.port x.chan x.id) refl legal g.0)
+      by service.Snoops first is = cc
+      by (service.Passed e) first is =
+          let m = passed-is e is in
+          let kept : is_kept h past (M x.port x.chan x.id m.0) ≡ true = subst (λ v. is_kept h past v ≡ true) m.2 m.1 in
+          legal-of (M x.port x.chan x.id m.0) d (sym m.2 ∙ Some-injective e d first) (legal-with plan past (M x.port x.chan x.id m.0) refl legal kept)
+      by (service.Transfer e) first is = let r = transfer-is e is in legal-of transfer d (r.1 ∙ Some-injective e d first) (legal-with plan past transfer refl legal r.0)
+      by (service.Write e) first is =
+          let w = written h past x e is in
+          let kept : is_kept h past (M x.port x.chan x.id w.line) ≡ true = subst (λ v. is_kept h past v ≡ true) w.is w.kept in
+          legal-of (M x.port x.chan x.id w.line) d (sym w.is ∙ Some-injective e d first) (legal-with plan past (M x.port x.chan x.id w.line) refl legal kept)
 
   -- the response of a granted write after its M
   module _ (e : Event) (is : first_kept h past (write_burst h past x) ≡ Some e) where
@@ -207,110 +206,236 @@ module _ (plan : Plan) (past : Trace) (legal : IsLegal plan past) (p : ℕ) (x :
     response-kept-after = subst (λ d. is_kept h (d ∷ past) (B x.port x.id 0) ≡ true) (sym w.is) response-after
 
     pub legal-response : IsLegal plan (B x.port x.id 0 ∷ e ∷ past)
-    legal-response = legal-with plan (e ∷ past) (B x.port x.id 0) refl (legal-first (service.Write e) is) response-kept-after
+    legal-response = legal-with plan (e ∷ past) (B x.port x.id 0) refl (legal-first (service.Write e) e refl is) response-kept-after
 
   -- ---- the step ----
+
+  same-given : (burst_for : Header → Trace → Transaction → List Event) (e : Event) (rest : List Event) → burst_for h past x ≡ e ∷ rest → same_burst (burst_for h past x) (e ∷ rest) ≡ true
+  same-given burst_for e rest is = ap (λ b. same_burst b (e ∷ rest)) is ∙ burst-self (e ∷ rest)
 
   -- a burst for the transaction is one that its step gives
   given : (burst_for : Header → Trace → Transaction → List Event) (e : Event) (rest : List Event) → burst_for h past x ≡ e ∷ rest → is_kept h past e ≡ true
       → (may_serve burst_for h past p && serves burst_for h past p (e ∷ rest)) ≡ true
   given burst_for e rest is kept =
       and_from _ _ (some-passes h past p (λ y. may_begin h past (burst_for h past y)) x o (ap (may_begin h past) is ∙ kept))
-      (some-passes h past p (λ y. same_burst (burst_for h past y) (e ∷ rest)) x o (ap (λ b. same_burst b (e ∷ rest)) is ∙ burst-self (e ∷ rest)))
+      (some-passes h past p (λ y. same_burst (burst_for h past y) (e ∷ rest)) x o (same-given burst_for e rest is))
 
   alone : (e : Event) → is_kept h past e ≡ true → is_sound h past (e ∷ []) ≡ true
   alone e kept = and_from _ _ refl (and_from _ _ kept refl)
 
-  snoops-given : (e : Event) → IsSnoop h past x e → (may_snoop h past p && gives_snoops h past p (e ∷ [])) ≡ true
-  snoops-given e s =
-      and_from _ _
-      (some-passes h past p (λ y. is_granted h past y && is_some_and (snoop_of y) (λ k. list_any (λ q. is_kept h past (snoop_for y k q)) (ports_below h.ports))) x o
-      (and_from _ _ s.granted (ap (λ v. is_some_and v (λ k. list_any (λ q. is_kept h past (snoop_for x k q)) (ports_below h.ports))) s.causes ∙ there)))
-      (some-passes h past p (λ y. is_granted h past y && is_some_and (snoop_of y) (λ k. list_all (is_snoop_for y k) (e ∷ []))) x o
-      (and_from _ _ s.granted (ap (λ v. is_some_and v (λ k. list_all (is_snoop_for x k) (e ∷ []))) s.causes ∙ and_from _ _ own refl)))
+  -- The burst is one of the step for the transaction.
+  pub record Serves (n : ℕ) (burst : List Event) : Type 0 where
+    pub step : is_step_by (n ∷ []) plan past p burst ≡ true
+    pub gives : gives_for n h past x burst ≡ true
+
+  pub serves-step : (s : Service) (d : Event) → first_of s ≡ Some d → IsService h past x s → Serves (number_of s) (d ∷ (if responds s then response x else []))
+  serves-step s d first is = by s first is
     where
-      low : nat_lt s.port h.ports ≡ true
-      low =
-          let kept : is_kept h past (snoop_for x s.kind s.port) ≡ true = subst (λ d. is_kept h past d ≡ true) s.is s.kept in
-          let keeps = accepted_keeps h past (snoop_for x s.kind s.port) (legal.accepted, kept-breaks-none h past (snoop_for x s.kind s.port) kept) in
-          (and_parts (nat_lt s.port h.ports) _ keeps.rule_1).0
-
-      there : list_any (λ q. is_kept h past (snoop_for x s.kind q)) (ports_below h.ports) ≡ true
-      there = some-below h.ports (λ q. is_kept h past (snoop_for x s.kind q)) s.port low (subst (λ d. is_kept h past d ≡ true) s.is s.kept)
-
-      own : is_snoop_for x s.kind e ≡ true
-      own = subst (λ d. is_snoop_for x s.kind d ≡ true) (sym s.is) (event-self (snoop_for x s.kind s.port))
-
-  abbrev by-grant : List Event → Bool
-  by-grant burst = may_serve grant_burst h past p && serves grant_burst h past p burst
-
-  abbrev by-snoops : List Event → Bool
-  by-snoops burst = may_snoop h past p && gives_snoops h past p burst
-
-  abbrev by-passed : List Event → Bool
-  by-passed burst = may_serve passed_burst h past p && serves passed_burst h past p burst
-
-  abbrev by-transfer : List Event → Bool
-  by-transfer burst = may_serve transfer_burst h past p && serves transfer_burst h past p burst
-
-  abbrev by-write : List Event → Bool
-  by-write burst = may_serve write_burst h past p && serves write_burst h past p burst
-
-  one-of-five : (burst : List Event) → is_sound h past burst ≡ true
-      → (by-grant burst || (by-snoops burst || (by-passed burst || (by-transfer burst || (by-write burst || false))))) ≡ true
-      → is_step_by (5 ∷ 6 ∷ 7 ∷ 8 ∷ 9 ∷ []) plan past p burst ≡ true
-  one-of-five burst sound one = and_from (is_sound h past burst) _ sound one
-
-  pub serves-step : (s : Service) → IsService h past x s → is_step_by (5 ∷ 6 ∷ 7 ∷ 8 ∷ 9 ∷ []) plan past p (burst_of s x) ≡ true
-  serves-step (service.Grant e) is =
-      let g = grant-is e is in
-      let b = e ∷ [] in
-      let kept : is_kept h past e ≡ true = subst (λ d. is_kept h past d ≡ true) g.1 g.0 in
-      one-of-five b (alone e kept) (or_left (by-grant b) _ (given grant_burst e [] g.2 kept))
-  serves-step (service.Snoop e) is =
-      let b = e ∷ [] in one-of-five b (alone e is.kept) (or_right (by-grant b) _ (or_left (by-snoops b) _ (snoops-given e is)))
-  serves-step (service.Passed e) is =
-      let m = passed-is e is in
-      let b = e ∷ [] in
-      one-of-five b (alone e m.1) (or_right (by-grant b) _ (or_right (by-snoops b) _ (or_left (by-passed b) _ (given passed_burst e [] m.3 m.1))))
-  serves-step (service.Transfer e) is =
-      let r = transfer-is e is in
-      let b = e ∷ [] in
-      let kept : is_kept h past e ≡ true = subst (λ d. is_kept h past d ≡ true) r.1 r.0 in
-      one-of-five b (alone e kept) (or_right (by-grant b) _ (or_right (by-snoops b) _ (or_right (by-passed b) _ (or_left (by-transfer b) _ (given transfer_burst e [] r.2 kept)))))
-  serves-step (service.Write e) is =
-      let m = written h past x e is in
-      let b = e ∷ response x in
-      one-of-five b (and_from _ _ refl (and_from _ _ m.kept (and_from _ _ (response-kept-after e is) refl)))
-      (or_right (by-grant b) _ (or_right (by-snoops b) _ (or_right (by-passed b) _ (or_right (by-transfer b) _ (or_left (by-write b) _ (given write_burst e (response x) m.burst m.kept))))))
+      by : (s : Service) → first_of s ≡ Some d → IsService h past x s → Serves (number_of s) (d ∷ (if responds s then response x else []))
+      by (service.Grant e) first is =
+          let g = grant-is e is in
+          let kept : is_kept h past e ≡ true = subst (λ v. is_kept h past v ≡ true) g.1 g.0 in
+          subst (λ v. Serves 5 (v ∷ [])) (Some-injective e d first) (record {
+            step = and_from (is_sound h past (e ∷ [])) _ (alone e kept) (or_left _ _ (given grant_burst e [] g.2 kept));
+            gives = same-given grant_burst e [] g.2;
+          })
+      by service.Snoops first is = cc
+      by (service.Passed e) first is =
+          let m = passed-is e is in
+          subst (λ v. Serves 7 (v ∷ [])) (Some-injective e d first) (record {
+            step = and_from (is_sound h past (e ∷ [])) _ (alone e m.1) (or_left _ _ (given passed_burst e [] m.3 m.1));
+            gives = same-given passed_burst e [] m.3;
+          })
+      by (service.Transfer e) first is =
+          let r = transfer-is e is in
+          let kept : is_kept h past e ≡ true = subst (λ v. is_kept h past v ≡ true) r.1 r.0 in
+          subst (λ v. Serves 8 (v ∷ [])) (Some-injective e d first) (record {
+            step = and_from (is_sound h past (e ∷ [])) _ (alone e kept) (or_left _ _ (given transfer_burst e [] r.2 kept));
+            gives = same-given transfer_burst e [] r.2;
+          })
+      by (service.Write e) first is =
+          let m = written h past x e is in
+          let b = e ∷ response x in
+          subst (λ v. Serves 9 (v ∷ response x)) (Some-injective e d first) (record {
+            step = and_from (is_sound h past b) _ (and_from _ _ refl (and_from _ _ m.kept (and_from _ _ (response-kept-after e is) refl)))
+                (or_left _ _ (given write_burst e (response x) m.burst m.kept));
+            gives = same-given write_burst e (response x) m.burst;
+          })
 
   -- the response after the first event of a write
-  pub legal-second : (s : Service) → IsService h past x s → responds s ≡ true → IsLegal plan (B x.port x.id 0 ∷ first_of s ∷ past)
-  legal-second (service.Write e) is t = legal-response e is
-  legal-second (service.Grant e) is t = cc
-  legal-second (service.Snoop e) is t = cc
-  legal-second (service.Passed e) is t = cc
-  legal-second (service.Transfer e) is t = cc
+  pub legal-second : (s : Service) (d : Event) → first_of s ≡ Some d → IsService h past x s → responds s ≡ true → IsLegal plan (B x.port x.id 0 ∷ d ∷ past)
+  legal-second s d first is t = by s first is t
+    where
+      by : (s : Service) → first_of s ≡ Some d → IsService h past x s → responds s ≡ true → IsLegal plan (B x.port x.id 0 ∷ d ∷ past)
+      by (service.Write e) first is t = subst (λ v. IsLegal plan (B x.port x.id 0 ∷ v ∷ past)) (Some-injective e d first) (legal-response e is)
+      by (service.Grant e) first is t = cc
+      by service.Snoops first is t = cc
+      by (service.Passed e) first is t = cc
+      by (service.Transfer e) first is t = cc
 
--- ---- where no step serves a transaction of the port --------------------------------------------------
+  -- ---- snoops ----
 
-none-begins : (h : Header) (past : Trace) (burst : List Event) → first_kept h past burst ≡ None → may_begin h past burst ≡ false
-none-begins h past [] none = refl
-none-begins h past (e ∷ burst) none = by (is_kept h past e) none
+  module _ (s : Home) (k : SnoopKind) (burst : List Event) (caused : snoop_of x ≡ Some k) (has : has_snoop h past x ≡ true) (b : AreSnoops s plan past x k h.ports burst) where
+    some-event : nat_le 1 (length burst) ≡ true
+    some-event = le-leb 1 (length burst) (more burst b)
+      where
+        more : (es : List Event) → AreSnoops s plan past x k h.ports es → 1 ≤ length es
+        more [] none = let no = no-snoop-left h past x k caused none.none in cc
+        more (e ∷ es) b = omega arith
+
+    few-events : nat_le (length burst) 16 ≡ true
+    few-events =
+        let few = few-ports h legal.right.header legal.right.version in
+        let most = b.few in
+        le-leb (length burst) 16 (omega (arith, few, most))
+
+    pub snoops-given : are_snoops h past x burst ≡ true
+    snoops-given =
+        and_from _ _ (and_parts (is_granted h past x) _ has).0 (ap (λ v. is_some_and v (λ j. list_all (is_snoop_for x j) burst)) caused ∙ b.all)
+
+    pub snoops-step : is_step_by (6 ∷ []) plan past p burst ≡ true
+    snoops-step =
+        and_from (is_sound h past burst) _ (and_from _ _ (and_from _ _ some-event few-events) b.kept)
+        (or_left (may_snoop h past p && gives_snoops h past p burst) _ (and_from _ _ (some-passes h past p (has_snoop h past) x o has)
+        (some-passes h past p (λ y. are_snoops h past y burst) x o snoops-given)))
+
+    pub snoops-left : has_snoop h (onto burst past) x ≡ false
+    snoops-left = no-snoop-left h (onto burst past) x k caused b.none
+
+-- ---- the whole step ----------------------------------------------------------------------------------
+
+-- a step with one first event
+pub served-by : (plan : Plan) (past : Trace) (legal : IsLegal plan past) (p : ℕ) (d : Due) (due : IsDue plan.header past p d) (e : Event) → first_of d.service ≡ Some e → (s : Home) (burst : List Event)
+    → Serves plan past legal p d.transaction due.pending (number_of d.service) burst → HomeStands s plan (onto burst past) → IsServing s plan past p d burst
+served-by plan past legal p d due e first s burst serves stands = record {
+  step = serves.step;
+  gives = serves.gives;
+  snooped = λ six. absurd (no-six d.service first six);
+  stands = stands;
+}
   where
-    by : (b : Bool) → (if b then Some e else None) ≡ None → b ≡ false
-    by true is = cc
-    by false is = refl
+    no-six : (v : Service) → first_of v ≡ Some e → number_of v ≡ 6 → ⊥
+    no-six (service.Grant e) first six = omega (arith, six)
+    no-six service.Snoops first six = cc
+    no-six (service.Passed e) first six = omega (arith, six)
+    no-six (service.Transfer e) first six = omega (arith, six)
+    no-six (service.Write e) first six = omega (arith, six)
+
+are-snoops : (v : Service) → first_of v ≡ None → v ≡ service.Snoops
+are-snoops (service.Grant e) none = cc
+are-snoops service.Snoops none = refl
+are-snoops (service.Passed e) none = cc
+are-snoops (service.Transfer e) none = cc
+are-snoops (service.Write e) none = cc
+
+pub snoops-caused : (plan : Plan) (past : Trace) (p : ℕ) (d : Due) → IsDue plan.header past p d → first_of d.service ≡ None → (k : SnoopKind) × (snoop_of d.transaction ≡ Some k)
+snoops-caused plan past p d due none =
+    let h = plan.header in
+    let x = d.transaction in
+    let has : has_snoop h past x ≡ true = subst (IsService h past x) (are-snoops d.service none) due.serves in
+    let k = is_some_and-is (snoop_of x) (λ k. list_any (λ q. is_kept h past (snoop_for x k q)) (ports_below h.ports)) (and_parts (is_granted h past x) _ has).1 in
+    (k.0, k.1)
+
+pub snoops-served : (plan : Plan) (past : Trace) (legal : IsLegal plan past) (p : ℕ) (d : Due) → IsDue plan.header past p d → first_of d.service ≡ None → (s : Home) (k : SnoopKind)
+    → snoop_of d.transaction ≡ Some k → (burst : List Event) → AreSnoops s plan past d.transaction k plan.header.ports burst → IsServing s plan past p d burst
+snoops-served plan past legal p d due none s k caused burst b =
+    let h = plan.header in
+    let x = d.transaction in
+    let is = are-snoops d.service none in
+    let has : has_snoop h past x ≡ true = subst (IsService h past x) is due.serves in
+    let number = ap number_of is in
+    record {
+      step = subst (λ n. is_step_by (n ∷ []) plan past p burst ≡ true) (sym number) (snoops-step plan past legal p x due.pending s k burst caused has b);
+      gives = subst (λ n. gives_for n h past x burst ≡ true) (sym number) (snoops-given plan past legal p x due.pending s k burst caused has b);
+      snooped = λ _. snoops-left plan past legal p x due.pending s k burst caused has b;
+      stands = b.stands;
+    }
+
+-- a step by one of the home's numbers is one of the home
+module _ (plan : Plan) (past : Trace) (p : ℕ) (burst : List Event) where
+  abbrev by-grant : Bool
+  by-grant = may_serve grant_burst plan.header past p && serves grant_burst plan.header past p burst
+
+  abbrev by-snoops : Bool
+  by-snoops = may_snoop plan.header past p && gives_snoops plan.header past p burst
+
+  abbrev by-passed : Bool
+  by-passed = may_serve passed_burst plan.header past p && serves passed_burst plan.header past p burst
+
+  abbrev by-transfer : Bool
+  by-transfer = may_serve transfer_burst plan.header past p && serves transfer_burst plan.header past p burst
+
+  abbrev by-write : Bool
+  by-write = may_serve write_burst plan.header past p && serves write_burst plan.header past p burst
+
+  whole : (is_sound plan.header past burst && (by-grant || (by-snoops || (by-passed || (by-transfer || (by-write || false)))))) ≡ true
+      → is_step_by (5 ∷ 6 ∷ 7 ∷ 8 ∷ 9 ∷ []) plan past p burst ≡ true
+  whole t = t
+
+  sound-and : (b later : Bool) → ((b || false) ≡ true → later ≡ true) → (is_sound plan.header past burst && (b || false)) ≡ true → (is_sound plan.header past burst && later) ≡ true
+  sound-and b later f t = let parts = and_parts (is_sound plan.header past burst) (b || false) t in and_from _ _ parts.0 (f parts.1)
+
+  only : (b : Bool) → (b || false) ≡ true → b ≡ true
+  only true t = refl
+  only false t = cc
+
+  pub of-home : (s : Service) → is_step_by (number_of s ∷ []) plan past p burst ≡ true → is_step_by (5 ∷ 6 ∷ 7 ∷ 8 ∷ 9 ∷ []) plan past p burst ≡ true
+  of-home (service.Grant e) t = whole (sound-and by-grant _ (λ u. or_left by-grant _ (only by-grant u)) t)
+  of-home service.Snoops t = whole (sound-and by-snoops _ (λ u. or_right by-grant _ (or_left by-snoops _ (only by-snoops u))) t)
+  of-home (service.Passed e) t = whole (sound-and by-passed _ (λ u. or_right by-grant _ (or_right by-snoops _ (or_left by-passed _ (only by-passed u)))) t)
+  of-home (service.Transfer e) t =
+      whole (sound-and by-transfer _ (λ u. or_right by-grant _ (or_right by-snoops _ (or_right by-passed _ (or_left by-transfer _ (only by-transfer u))))) t)
+  of-home (service.Write e) t =
+      whole (sound-and by-write _ (λ u. or_right by-grant _ (or_right by-snoops _ (or_right by-passed _ (or_right by-transfer _ (or_left by-write _ (only by-write u)))))) t)
+
+-- ---- where no step below a number is enabled ---------------------------------------------------------
 
 or-none : (a b : Bool) → a ≡ false → b ≡ false → (a || b) ≡ false
 or-none a b f g = rw (f, g) refl
 
-pub none-enabled : (plan : Plan) (past : Trace) (p : ℕ) → ((x : Transaction) → IsOf plan.header past p x → ServesNone plan.header past x)
-    → is_enabled_by (5 ∷ 6 ∷ 7 ∷ 8 ∷ 9 ∷ []) plan past p ≡ false
-none-enabled plan past p none =
-    let h = plan.header in
-    or-none (may_serve grant_burst h past p) _ (none-passes h past p (λ y. may_begin h past (grant_burst h past y)) (λ x o. none-begins h past (grant_burst h past x) (none x o).grant))
-    (or-none (may_snoop h past p) _ (none-passes h past p (has_snoop h past) (λ x o. (none x o).snoop))
-    (or-none (may_serve passed_burst h past p) _ (none-passes h past p (λ y. may_begin h past (passed_burst h past y)) (λ x o. none-begins h past (passed_burst h past x) (none x o).passed))
-    (or-none (may_serve transfer_burst h past p) _ (none-passes h past p (λ y. may_begin h past (transfer_burst h past y)) (λ x o. none-begins h past (transfer_burst h past x) (none x o).transfer))
-    (or-none (may_serve write_burst h past p) _ (none-passes h past p (λ y. may_begin h past (write_burst h past y)) (λ x o. none-begins h past (write_burst h past x) (none x o).write)) refl))))
+module _ (plan : Plan) (past : Trace) (p : ℕ) where
+  abbrev none-below-of : ℕ → Type 0
+  none-below-of n = (y : Transaction) → IsOf plan.header past p y → TakesNoneBelow n plan.header past y
+
+  no-grant : (n : ℕ) → 5 < n → none-below-of n → may_serve grant_burst plan.header past p ≡ false
+  no-grant n low none = none-passes plan.header past p (λ y. may_begin plan.header past (grant_burst plan.header past y)) (λ y o. none y o 5 low)
+
+  no-snoop : (n : ℕ) → 6 < n → none-below-of n → may_snoop plan.header past p ≡ false
+  no-snoop n low none = none-passes plan.header past p (has_snoop plan.header past) (λ y o. none y o 6 low)
+
+  no-passed : (n : ℕ) → 7 < n → none-below-of n → may_serve passed_burst plan.header past p ≡ false
+  no-passed n low none = none-passes plan.header past p (λ y. may_begin plan.header past (passed_burst plan.header past y)) (λ y o. none y o 7 low)
+
+  no-transfer : (n : ℕ) → 8 < n → none-below-of n → may_serve transfer_burst plan.header past p ≡ false
+  no-transfer n low none = none-passes plan.header past p (λ y. may_begin plan.header past (transfer_burst plan.header past y)) (λ y o. none y o 8 low)
+
+  no-write : (n : ℕ) → 9 < n → none-below-of n → may_serve write_burst plan.header past p ≡ false
+  no-write n low none = none-passes plan.header past p (λ y. may_begin plan.header past (write_burst plan.header past y)) (λ y o. none y o 9 low)
+
+  pub none-enabled : none-below-of all_steps → is_enabled_by (5 ∷ 6 ∷ 7 ∷ 8 ∷ 9 ∷ []) plan past p ≡ false
+  none-enabled none =
+      or-none _ _ (no-grant 10 (omega arith) none) (or-none _ _ (no-snoop 10 (omega arith) none) (or-none _ _ (no-passed 10 (omega arith) none)
+      (or-none _ _ (no-transfer 10 (omega arith) none) (or-none _ _ (no-write 10 (omega arith) none) refl))))
+
+  pub no-lesser : (s : Service) → none-below-of (number_of s) → is_enabled_by (lesser_steps (number_of s)) plan past p ≡ false
+  no-lesser (service.Grant e) none = refl
+  no-lesser service.Snoops none = or-none _ _ (no-grant 6 (omega arith) none) refl
+  no-lesser (service.Passed e) none = or-none _ _ (no-grant 7 (omega arith) none) (or-none _ _ (no-snoop 7 (omega arith) none) refl)
+  no-lesser (service.Transfer e) none =
+      or-none _ _ (no-grant 8 (omega arith) none) (or-none _ _ (no-snoop 8 (omega arith) none) (or-none _ _ (no-passed 8 (omega arith) none) refl))
+  no-lesser (service.Write e) none =
+      or-none _ _ (no-grant 9 (omega arith) none) (or-none _ _ (no-snoop 9 (omega arith) none) (or-none _ _ (no-passed 9 (omega arith) none)
+      (or-none _ _ (no-transfer 9 (omega arith) none) refl)))
+
+pub least-step : (plan : Plan) (past : Trace) (p : ℕ) (s : Home) (d : Due) (burst : List Event) → IsFirst plan.header past p (IsOf plan.header past p) d → IsServing s plan past p d burst
+    → IsLeastStep plan past p burst
+least-step plan past p s d burst first serving = record {
+  number = number_of d.service;
+  served = d.transaction;
+  step = serving.step;
+  pending = first.due.pending;
+  gives = serving.gives;
+  least = no-lesser plan past p d.service first.least;
+  oldest = first.oldest;
+  snooped = serving.snooped;
+}

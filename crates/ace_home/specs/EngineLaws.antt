@@ -17,5 +17,5 @@ pub grows : (s : Home) (plan : Plan) (past : Trace) (o : PlanOp) → HomeStands 
 grows s plan past o stands right other = record {
   legal = legal-longer plan past o stands.legal right;
   shares = stands.shares;
-  ports = stands.ports;
+  header = stands.header;
 }

@@ -2,3 +2,4 @@
 pub mod EngineLaws
 pub mod Home
 pub mod Services
+pub mod Turns

@@ -1,34 +1,38 @@
 -- The steps by which the home serves one transaction.
-use Rattle.std.specs.Prelude.{ℕ, ◌≡◌, Bool, true, false, ◌&&◌, if◌then◌else◌, List, [], ◌∷◌, Option, Some, None}
-use Rattle.std.specs.List.{list_any}
-use Rattle.ace_codes.specs.declared.kind.SnoopKind.{SnoopKind}
+use Rattle.std.specs.Prelude.{ℕ, ◌≡◌, ◌<◌, Bool, true, false, ◌&&◌, ◌==◌, if◌then◌else◌, List, [], ◌∷◌, Option, Some, None}
+use Rattle.std.specs.List.{list_all, list_any}
 use Rattle.ace_event.specs.declared.event.Event.{Event}
 use Rattle.ace_event.specs.declared.header.Header.{Header}
 use Rattle.ace_model.specs.declared.transactions.Transaction.{Transaction}
 use Rattle.ace_model.specs.Grants.{is_granted, ports_below}
 use Rattle.ace_model.specs.Trace.{Trace, is_some_and}
 use Rattle.ace_model.specs.Transactions.{snoop_of}
-use Rattle.ace_runs.specs.Bursts.{is_kept}
-use Rattle.ace_runs.specs.LineSteps.{grant_burst, passed_burst, response, snoop_for, transfer_burst, write_burst}
+use Rattle.ace_runs.specs.Bursts.{is_kept, may_begin}
+use Rattle.ace_runs.specs.LineSteps.{grant_burst, is_snoop_for, passed_burst, snoop_for, transfer_burst, write_burst}
+use Rattle.ace_runs.specs.SameEvents.{same_burst}
 use Rattle.ace_home.specs.declared.service.Service.{Service}
-use Rattle.ace_home.specs.declared.service.Service.TheVariants.{Grant, Snoop, Passed, Transfer, Write}
+use Rattle.ace_home.specs.declared.service.Service.TheVariants.{Grant, Snoops, Passed, Transfer, Write}
 
--- the first event of the step's burst
-abbrev pub first_of : Service → Event
-first_of (Grant e) = e
-first_of (Snoop e) = e
-first_of (Passed e) = e
-first_of (Transfer e) = e
-first_of (Write e) = e
+-- the number of the step
+abbrev pub number_of : Service → ℕ
+number_of (Grant e) = 5
+number_of Snoops = 6
+number_of (Passed e) = 7
+number_of (Transfer e) = 8
+number_of (Write e) = 9
+
+-- the first event of the step's burst, but for snoops
+abbrev pub first_of : Service → Option Event
+first_of (Grant e) = Some e
+first_of Snoops = None
+first_of (Passed e) = Some e
+first_of (Transfer e) = Some e
+first_of (Write e) = Some e
 
 -- a write has its response after its M
 abbrev pub responds : Service → Bool
 responds (Write e) = true
 responds s = false
-
--- the burst of the step
-abbrev pub burst_of : Service → Transaction → List Event
-burst_of s x = first_of s ∷ (if responds s then response x else [])
 
 -- the event, where it breaks no rule
 abbrev pub if_kept : Header → Trace → Event → Option Event
@@ -41,34 +45,57 @@ first_kept h past (e ∷ burst) = if_kept h past e
 
 -- a port may be snooped for the transaction
 abbrev pub has_snoop : Header → Trace → Transaction → Bool
-has_snoop h past x = is_granted h past x && is_some_and (snoop_of x) (λ k. list_any (λ q. is_kept h past (snoop_for x k q)) (ports_below h.ports))
+has_snoop h past x =
+    is_granted h past x
+    && is_some_and (snoop_of x) (λ k. list_any (λ q. is_kept h past (snoop_for x k q)) (ports_below h.ports))
 
--- The event is a snoop for the transaction, which is granted, and breaks no rule.
-pub record IsSnoop (h : Header) (past : Trace) (x : Transaction) (e : Event) : Type 0 where
-  pub granted : is_granted h past x ≡ true
-  pub kind : SnoopKind
-  pub causes : snoop_of x ≡ Some kind
-  pub port : ℕ
-  pub is : e ≡ snoop_for x kind port
-  pub kept : is_kept h past e ≡ true
+-- Step n may be taken for the transaction: its burst may begin or, of step 6, a port may be snooped.
+abbrev pub may_take : ℕ → Header → Trace → Transaction → Bool
+may_take n h past x =
+    if n == 5 then may_begin h past (grant_burst h past x)
+    else if n == 6 then has_snoop h past x
+    else if n == 7 then may_begin h past (passed_burst h past x)
+    else if n == 8 then may_begin h past (transfer_burst h past x)
+    else if n == 9 then may_begin h past (write_burst h past x)
+    else false
 
--- The event is the first of the burst of such a step for the transaction, and breaks no rule.
+-- the events are snoops for the transaction, which is granted
+abbrev pub are_snoops : Header → Trace → Transaction → List Event → Bool
+are_snoops h past x burst =
+    is_granted h past x && is_some_and (snoop_of x) (λ k. list_all (is_snoop_for x k) burst)
+
+-- step n gives the burst for the transaction
+abbrev pub gives_for : ℕ → Header → Trace → Transaction → List Event → Bool
+gives_for n h past x burst =
+    if n == 5 then same_burst (grant_burst h past x) burst
+    else if n == 6 then are_snoops h past x burst
+    else if n == 7 then same_burst (passed_burst h past x) burst
+    else if n == 8 then same_burst (transfer_burst h past x) burst
+    else if n == 9 then same_burst (write_burst h past x) burst
+    else false
+
+-- No step with a number below n may be taken for the transaction.
+abbrev pub TakesNoneBelow : ℕ → Header → Trace → Transaction → Type 0
+TakesNoneBelow n h past x = (m : ℕ) → m < n → may_take m h past x ≡ false
+
+-- above the numbers of the home's steps
+abbrev pub all_steps : ℕ
+all_steps = 10
+
+-- The event is the first of the burst of such a step for the transaction, and breaks no rule; or a port
+-- may be snooped for it.
 abbrev pub IsService : Header → Trace → Transaction → Service → Type 0
 IsService h past x (Grant e) = first_kept h past (grant_burst h past x) ≡ Some e
-IsService h past x (Snoop e) = IsSnoop h past x e
+IsService h past x Snoops = has_snoop h past x ≡ true
 IsService h past x (Passed e) = first_kept h past (passed_burst h past x) ≡ Some e
 IsService h past x (Transfer e) = first_kept h past (transfer_burst h past x) ≡ Some e
 IsService h past x (Write e) = first_kept h past (write_burst h past x) ≡ Some e
 
--- Neither step of a granted read answers it.
-pub record AnswersNone (h : Header) (past : Trace) (x : Transaction) : Type 0 where
-  pub passed : first_kept h past (passed_burst h past x) ≡ None
-  pub transfer : first_kept h past (transfer_burst h past x) ≡ None
+-- It is the step of least number for the transaction.
+abbrev pub IsLeastFor : Header → Trace → Transaction → Option Service → Type 0
+IsLeastFor h past x None = TakesNoneBelow all_steps h past x
+IsLeastFor h past x (Some s) = IsService h past x s × TakesNoneBelow (number_of s) h past x
 
--- No step serves the transaction.
-pub record ServesNone (h : Header) (past : Trace) (x : Transaction) : Type 0 where
-  pub grant : first_kept h past (grant_burst h past x) ≡ None
-  pub snoop : has_snoop h past x ≡ false
-  pub passed : first_kept h past (passed_burst h past x) ≡ None
-  pub transfer : first_kept h past (transfer_burst h past x) ≡ None
-  pub write : first_kept h past (write_burst h past x) ≡ None
+-- It is that step where no port may be snooped for the transaction.
+abbrev pub IsReply : Header → Trace → Transaction → Option Service → Type 0
+IsReply h past x s = has_snoop h past x ≡ false → IsLeastFor h past x s

@@ -1,28 +1,31 @@
 //! The first event of the burst of each step, where it breaks no rule.
 
-ghost use Rattle.std.specs.Prelude.{◌≡◌, ◌+◌, ◌==◌, ◌&&◌, ℕ, false, not, None, Some, if◌then◌else◌};
+ghost use Rattle.std.specs.Prelude.{◌≡◌, ◌+◌, ◌==◌, ◌&&◌, ℕ, false, not, Option, if◌then◌else◌};
 ghost use Rattle.ace_event.specs.declared.event.Channel.TheVariants.{Read as Reads, Write as Writes};
-ghost use Rattle.ace_event.specs.declared.event.Event.{Event as Next};
 ghost use Rattle.ace_event.specs.declared.event.Event.TheVariants.{M, R};
 ghost use Rattle.ace_model.specs.Copies.{is_line_read_transaction, word_of};
 ghost use Rattle.ace_model.specs.Kinds.{beats_of};
 ghost use Rattle.ace_model.specs.Plans.{Plan};
 ghost use Rattle.ace_model.specs.Trace.{Trace, is_some_and};
 ghost use Rattle.ace_model.specs.Transactions.{read_kind};
-ghost use Rattle.ace_runs.specs.LineSteps.{bit_if, grant_burst, passed_burst, transfer_burst, write_burst};
-ghost use Rattle.ace_portck.specs.Targets.{data_of_write};
-ghost use Rattle.ace_home.specs.Home.{HomeStands, IsOf, Tells};
-ghost use Rattle.ace_home.specs.Services.{AnswersNone, IsService, IsSnoop, first_kept, has_snoop, if_kept};
-ghost use Rattle.ace_home.specs.declared.service.Service.{Service as Step};
+ghost use Rattle.ace_model.specs.Grants.{is_granted};
+ghost use Rattle.ace_runs.specs.Bursts.{is_kept};
+ghost use Rattle.ace_runs.specs.LineSteps.{bit_if, grant_burst, passed_burst, snoop_for, transfer_burst, write_burst};
+ghost use Rattle.ace_portck.specs.declared.target.Progress.{Progress as Progresses};
+ghost use Rattle.ace_portck.specs.Targets.{Recording, data_of_write};
+ghost use Rattle.ace_lineck.specs.Stands.{Stands, place_on};
+ghost use Rattle.ace_lineck.specs.Waiting.{is_answering};
+ghost use Rattle.ace_home.specs.Home.{HomeStands, IsOf, IsServed, Tells};
+ghost use Rattle.ace_home.specs.Services.{IsReply, first_kept, has_snoop, if_kept};
 
 use crate::home::Home;
 use crate::queues::grant_of;
 use crate::service::Service;
-use ace_codes::ac_code;
+use ace_codes::{SnoopKind, ac_code};
 use ace_event::{Event, Line};
-use ace_lineck::{is_line_read_transaction, snoop_of};
+use ace_lineck::{LineCheck, is_line_read_transaction, snoop_of};
 use ace_model::Transaction;
-use ace_model::kinds::{beats_of, read_kind};
+use ace_model::kinds::{beats_of, is_ace, read_kind};
 use ace_portck::{Progress, WriteData};
 
 /// The M by which the transaction writes the line.
@@ -34,6 +37,17 @@ fn write_of(x: &Transaction, line: Line) -> Event
         chan: x.chan,
         id: x.id,
         line,
+    }
+}
+
+/// The AC of the port for the transaction, which causes such snoops.
+pub fn snoop_for(x: &Transaction, kind: SnoopKind, port: u8) -> Event
+    ensures { result ≡ snoop_for x.now kind port }
+{
+    Event::Ac {
+        port,
+        addr: x.addr,
+        snoop: ac_code(kind),
     }
 }
 
@@ -91,6 +105,17 @@ fn transfer_of(x: &Progress, resp: u8, reply: &Line) -> Event
     }
 }
 
+/// It hasn't begun, and some answer to its snoops isn't whole, so that it can't begin. That isn't
+/// told of an exclusive one, which begins all the same where it fails. `place` is that of its line.
+fn is_held_up(lines: &LineCheck, place: Option<usize>, x: &Progress) -> bool
+    ensures { (r : Recording) → Stands lines.now r
+        → place ≡ place_on lines.now (Some x.now.transaction.addr)
+        → result ≡ ((x.now.transfers == 0) && not x.now.transaction.lock
+        && is_answering r.header r.past x.now.transaction.addr) }
+{
+    x.transfers == 0 && !x.transaction.lock && lines.is_answering(place)
+}
+
 impl Home {
     /// The event, where it breaks no rule.
     fn kept(&self, event: Event) -> Option<Event>
@@ -108,9 +133,6 @@ impl Home {
         ensures { (plan : Plan) (past : Trace) (p : ℕ) → Tells self.now plan past p x.now
             → result ≡ first_kept plan.header past (grant_burst plan.header past x.now.transaction) }
     {
-        if x.granted {
-            return None;
-        }
         let grant = grant_of(&x.transaction);
         if !self.shares.keeps(&grant) {
             return None;
@@ -122,42 +144,54 @@ impl Home {
         }
     }
 
-    /// The AC of a port that may be snooped for the transaction.
-    pub(crate) fn snoop(&self, x: &Progress) -> Option<Event>
-        ensures some { (e : Next) → result ≡ Some e → (plan : Plan) (past : Trace) (p : ℕ) → Tells self.now plan past p x.now
-            → IsSnoop plan.header past x.now.transaction e }
-        ensures none { result ≡ None → (plan : Plan) (past : Trace) (p : ℕ) → Tells self.now plan past p x.now
-            → has_snoop plan.header past x.now.transaction ≡ false }
+    /// The port may be snooped for the transaction, which causes such snoops. No ACE-Lite port may, so
+    /// of such none is asked.
+    pub(crate) fn may_snoop(&self, x: &Transaction, kind: SnoopKind, port: u8) -> bool
+        ensures { (plan : Plan) (past : Trace) → HomeStands self.now plan past
+            → result ≡ is_kept plan.header past (snoop_for x.now kind port) }
     {
-        if !x.granted {
-            return None;
+        if !is_ace(&self.header, port) {
+            return false;
+        }
+        self.shares.keeps(&snoop_for(x, kind, port))
+    }
+
+    /// A look that costs little: where it says no, no port may be snooped any more for the granted
+    /// transaction of the line at the place, as it has begun or each was snooped.
+    fn may_still_snoop(&self, place: Option<usize>) -> bool
+        ensures { result ≡ false → (plan : Plan) (past : Trace) (p : ℕ) (x : Progresses)
+            → IsServed self.now plan past p place x
+            → has_snoop plan.header past x.transaction ≡ false }
+    {
+        self.shares.lines().has_unsnooped(place)
+    }
+
+    /// A port may be snooped for the granted transaction. `place` is that of its line.
+    pub(crate) fn has_snoop(&self, place: Option<usize>, x: &Progress) -> bool
+        ensures { (plan : Plan) (past : Trace) (p : ℕ) → IsServed self.now plan past p place x.now
+            → result ≡ has_snoop plan.header past x.now.transaction }
+    {
+        if !self.may_still_snoop(place) {
+            return false;
         }
         let Some(kind) = snoop_of(&x.transaction) else {
-            return None;
+            return false;
         };
-        for port in 0..self.ports {
-            let snoop = Event::Ac {
-                port,
-                addr: x.transaction.addr,
-                snoop: ac_code(kind),
-            };
-            if self.shares.keeps(&snoop) {
-                return Some(snoop);
+        for port in 0..self.header.ports {
+            if self.may_snoop(&x.transaction, kind, port) {
+                return true;
             }
         }
-        None
+        false
     }
 
     /// The M of passed data that the read can't take.
-    fn passed(&self, x: &Progress) -> Option<Event>
-        ensures { (plan : Plan) (past : Trace) (p : ℕ) → Tells self.now plan past p x.now → x.now.transaction.chan ≡ Reads
+    fn passed(&self, place: Option<usize>, x: &Progress) -> Option<Event>
+        ensures { (plan : Plan) (past : Trace) (p : ℕ) → IsServed self.now plan past p place x.now
+            → x.now.transaction.chan ≡ Reads
             → result ≡ first_kept plan.header past (passed_burst plan.header past x.now.transaction) }
     {
-        if !x.granted {
-            return None;
-        }
         let lines = self.shares.lines();
-        let place = lines.place(Some(x.transaction.addr));
         if lines.can_take_passed_data(place, &x.transaction) {
             return None;
         }
@@ -168,16 +202,16 @@ impl Home {
     }
 
     /// The next R of the read.
-    fn transfer(&self, x: &Progress) -> Option<Event>
-        ensures { (plan : Plan) (past : Trace) (p : ℕ) → Tells self.now plan past p x.now → x.now.transaction.chan ≡ Reads
+    fn transfer(&self, place: Option<usize>, x: &Progress) -> Option<Event>
+        ensures { (plan : Plan) (past : Trace) (p : ℕ) → IsServed self.now plan past p place x.now
+            → x.now.transaction.chan ≡ Reads
             → result ≡ first_kept plan.header past (transfer_burst plan.header past x.now.transaction) }
     {
-        if !x.granted {
-            return None;
-        }
         let read = &x.transaction;
         let lines = self.shares.lines();
-        let place = lines.place(Some(read.addr));
+        if is_held_up(lines, place, x) {
+            return None;
+        }
         let dirty = lines.has_passed_data(place);
         let takes = lines.can_take_passed_data(place, read);
         if is_stuck(dirty, takes) {
@@ -189,17 +223,15 @@ impl Home {
         self.kept(transfer_of(x, resp, &lines.reply(place)))
     }
 
-    /// The next event of a granted read.
-    pub(crate) fn answer(&self, x: &Progress) -> Option<Service>
-        ensures some { (s : Step) → result ≡ Some s → (plan : Plan) (past : Trace) (p : ℕ) → Tells self.now plan past p x.now
-            → x.now.transaction.chan ≡ Reads → IsService plan.header past x.now.transaction s }
-        ensures none { result ≡ None → (plan : Plan) (past : Trace) (p : ℕ) → Tells self.now plan past p x.now
-            → x.now.transaction.chan ≡ Reads → AnswersNone plan.header past x.now.transaction }
+    /// The next step of a granted read, which is snooped. `place` is that of its line.
+    pub(crate) fn answer(&self, place: Option<usize>, x: &Progress) -> Option<Service>
+        ensures { (plan : Plan) (past : Trace) (p : ℕ) → IsServed self.now plan past p place x.now
+            → x.now.transaction.chan ≡ Reads → IsReply plan.header past x.now.transaction result }
     {
-        if let Some(event) = self.passed(x) {
+        if let Some(event) = self.passed(place, x) {
             return Some(Service::Passed(event));
         }
-        match self.transfer(x) {
+        match self.transfer(place, x) {
             None => None,
             Some(event) => Some(Service::Transfer(event)),
         }
@@ -215,19 +247,19 @@ impl Home {
     }
 
     /// The M of a granted write.
-    pub(crate) fn write(&self, x: &Progress) -> Option<Event>
-        ensures { (plan : Plan) (past : Trace) (p : ℕ) → Tells self.now plan past p x.now → x.now.transaction.chan ≡ Writes
+    pub(crate) fn write(&self, place: Option<usize>, x: &Progress) -> Option<Event>
+        ensures { (plan : Plan) (past : Trace) (p : ℕ) → IsServed self.now plan past p place x.now
+            → x.now.transaction.chan ≡ Writes
             → result ≡ first_kept plan.header past (write_burst plan.header past x.now.transaction) }
     {
-        if !x.granted {
+        let write = &x.transaction;
+        let lines = self.shares.lines();
+        if is_held_up(lines, place, x) {
             return None;
         }
-        let write = &x.transaction;
         let Some(burst) = self.burst(write) else {
             return None;
         };
-        let lines = self.shares.lines();
-        let place = lines.place(Some(write.addr));
         self.kept(write_of(write, lines.written(place, write, &burst)))
     }
 }

@@ -1,21 +1,25 @@
 //! The engine.
 
-ghost use Rattle.std.specs.Prelude.{◌≡◌, ◌<◌, ◌∷◌, ◌++◌, ℕ, [], Some, None, IfOk, length, slice_get};
+ghost use Rattle.std.specs.Prelude.{◌≡◌, ◌<◌, ◌∷◌, ◌++◌, ℕ, [], Some, Option, IfOk, length};
+ghost use Rattle.ace_codes.specs.declared.kind.SnoopKind.{SnoopKind as Snoops};
 ghost use Rattle.ace_model.specs.Copies.{memory_of};
+ghost use Rattle.ace_model.specs.Transactions.{snoop_of};
 ghost use Rattle.ace_model.specs.Plans.{IsRight, Plan};
 ghost use Rattle.ace_model.specs.Trace.{Trace};
 ghost use Rattle.ace_engine.specs.Engines.{IsLegal};
-ghost use Rattle.ace_model.specs.declared.transactions.Transaction.{Transaction as Issued};
-ghost use Rattle.ace_portck.specs.Pending.{pending_of};
-ghost use Rattle.ace_home.specs.Home.{HomeStands, IsDue, IsOf, IsTurn, Tells};
-ghost use Rattle.ace_home.specs.Services.{IsService, ServesNone};
+ghost use Rattle.ace_home.specs.Home.{HomeStands, IsListed, IsOf, IsServed, Tells};
+ghost use Rattle.ace_home.specs.Services.{IsLeastFor, IsReply};
+ghost use Rattle.ace_home.specs.Turns.{AreSnoops, IsDue, IsFirstOf, IsServing, due_by, sooner};
 ghost use Rattle.ace_home.specs.declared.service.Service.{Service as Step};
 
+use crate::candidates::snoop_for;
+use crate::due::{Due, sooner};
 use crate::service::Service;
 use ace_check::Shares;
 use ace_engine::{Burst, Engine};
-use ace_event::{Channel, Event, Line};
+use ace_event::{Channel, Event, Header, Line};
 use ace_io::NoMemory;
+use ace_lineck::snoop_of;
 use ace_model::{PlanView, Transaction};
 use ace_portck::Progress;
 use std::alloc::Global;
@@ -25,8 +29,7 @@ use std::alloc::Global;
 #[derive(Drop)]
 pub struct Home {
     pub(crate) shares: Shares,
-    /// How many ports the system has.
-    pub(crate) ports: u8,
+    pub(crate) header: Header,
 }
 
 impl Home {
@@ -43,10 +46,7 @@ impl Home {
         let Ok(shares) = Shares::new(alloc, header) else {
             return Err(NoMemory);
         };
-        Ok(Home {
-            shares,
-            ports: header.ports,
-        })
+        Ok(Home { shares, header })
     }
 
     /// What memory has of the line; a line that was never written has zeros.
@@ -56,55 +56,78 @@ impl Home {
         self.shares.lines().memory(line)
     }
 
-    /// A step for an outstanding transaction.
-    fn service(&self, x: &Progress) -> Option<Service>
-        ensures some { (s : Step) → result ≡ Some s → (plan : Plan) (past : Trace) (p : ℕ) → Tells self.now plan past p x.now
-            → IsService plan.header past x.now.transaction s }
-        ensures none { result ≡ None → (plan : Plan) (past : Trace) (p : ℕ) → Tells self.now plan past p x.now
-            → ServesNone plan.header past x.now.transaction }
+    /// The next event of a granted transaction, which is snooped. `place` is that of its line.
+    fn reply(&self, place: Option<usize>, x: &Progress) -> Option<Service>
+        ensures { (plan : Plan) (past : Trace) (p : ℕ) → IsServed self.now plan past p place x.now
+            → IsReply plan.header past x.now.transaction result }
     {
-        if let Some(grant) = self.grant(x) {
-            return Some(Service::Grant(grant));
-        }
-        if let Some(snoop) = self.snoop(x) {
-            return Some(Service::Snoop(snoop));
-        }
         match x.transaction.chan {
-            Channel::Read => self.answer(x),
-            Channel::Write => match self.write(x) {
+            Channel::Read => self.answer(place, x),
+            Channel::Write => match self.write(place, x) {
                 None => None,
                 Some(event) => Some(Service::Write(event)),
             },
         }
     }
 
-    /// A step for an outstanding transaction of the port on the channel, with the transaction.
-    fn due(&self, port: u8, chan: Channel) -> Option<(Transaction, Service)>
-        ensures some { (x : Issued) (s : Step) → result ≡ Some (x, s) → (plan : Plan) (past : Trace) → HomeStands self.now plan past
-            → IsDue plan.header past port x s }
-        ensures none { result ≡ None → (plan : Plan) (past : Trace) (k : ℕ) (x : Issued) → HomeStands self.now plan past
-            → slice_get (pending_of plan.header past port chan) k ≡ Some x → ServesNone plan.header past x }
+    /// The step of least number for an outstanding transaction. What isn't granted waits for its G.
+    fn service(&self, x: &Progress) -> Option<Service>
+        ensures { (plan : Plan) (past : Trace) (p : ℕ) → Tells self.now plan past p x.now
+            → IsLeastFor plan.header past x.now.transaction result }
     {
-        let queue = self.queue(port, chan);
-        for i in 0..queue.len() {
-            if let Some(service) = self.service(&queue[i]) {
-                return Some((queue[i].transaction, service));
-            }
+        if !x.granted {
+            return match self.grant(x) {
+                None => None,
+                Some(event) => Some(Service::Grant(event)),
+            };
         }
-        None
+        let place = self.shares.lines().place(Some(x.transaction.addr));
+        if self.has_snoop(place, x) {
+            return Some(Service::Snoops);
+        }
+        self.reply(place, x)
     }
 
-    /// A step for an outstanding transaction of the port, with the transaction.
-    fn next(&self, port: u8) -> Option<(Transaction, Service)>
-        ensures some { (x : Issued) (s : Step) → result ≡ Some (x, s) → (plan : Plan) (past : Trace) → HomeStands self.now plan past
-            → IsDue plan.header past port x s }
-        ensures none { result ≡ None → (plan : Plan) (past : Trace) (x : Issued) → HomeStands self.now plan past → IsOf plan.header past port x
-            → ServesNone plan.header past x }
+    /// The first of this and of the step for the outstanding transaction.
+    fn first_with(&self, first: Option<Due>, x: &Progress) -> Option<Due>
+        ensures { (plan : Plan) (past : Trace) (p : ℕ) → Tells self.now plan past p x.now
+            → (s : Option Step) × IsLeastFor plan.header past x.now.transaction s
+            × (result ≡ sooner first (due_by x.now.transaction s)) }
     {
-        if let Some(due) = self.due(port, Channel::Read) {
-            return Some(due);
+        match self.service(x) {
+            None => first,
+            Some(service) => {
+                let next = Due {
+                    transaction: x.transaction,
+                    service,
+                };
+                sooner(first, Some(next))
+            }
         }
-        self.due(port, Channel::Write)
+    }
+
+    /// The first step for the outstanding transactions of the port on the channel.
+    fn due(&self, port: u8, chan: Channel) -> Option<Due>
+        ensures { (plan : Plan) (past : Trace) → HomeStands self.now plan past
+            → IsFirstOf plan.header past port (IsListed plan.header past port chan) result }
+    {
+        let queue = self.queue(port, chan);
+        let mut first = None;
+        for i in 0..queue.len() {
+            first = self.first_with(first, &queue[i]);
+        }
+        first
+    }
+
+    /// The first step for the outstanding transactions of the port.
+    fn next(&self, port: u8) -> Option<Due>
+        ensures { (plan : Plan) (past : Trace) → HomeStands self.now plan past
+            → IsFirstOf plan.header past port (IsOf plan.header past port) result }
+    {
+        sooner(
+            self.due(port, Channel::Read),
+            self.due(port, Channel::Write),
+        )
     }
 
     /// Hears the next event of the trace.
@@ -115,24 +138,48 @@ impl Home {
         self.shares.hear(event);
     }
 
-    /// Hears the event, and puts it in the burst.
+    /// Hears the event, and puts it in the burst, if that isn't full.
     fn put(&mut self, event: Event, out: &mut Burst)
-        requires { length out.old < 16 }
         ensures stands { (plan : Plan) (past : Trace) → HomeStands self.old plan past → IsLegal plan (event ∷ past) → HomeStands self.new plan (event ∷ past) }
-        ensures burst { out.new ≡ out.old ++ event ∷ [] }
+        ensures burst { length out.old < 16 → out.new ≡ out.old ++ event ∷ [] }
     {
         self.note(&event);
-        out.push(event);
+        if out.len() < 16 {
+            out.push(event);
+        }
+    }
+
+    /// Puts the AC of each port that may be snooped for the granted transaction.
+    fn put_snoops(&mut self, x: &Transaction, out: &mut Burst)
+        requires { out.old ≡ [] }
+        ensures { (plan : Plan) (past : Trace) (kind : Snoops) → HomeStands self.old plan past
+            → snoop_of x.now ≡ Some kind
+            → AreSnoops self.new plan past x.now kind plan.header.ports out.new }
+    {
+        let Some(kind) = snoop_of(x) else {
+            return;
+        };
+        for port in 0..self.header.ports {
+            if self.may_snoop(x, kind, port) {
+                self.put(snoop_for(x, kind, port), out);
+            }
+        }
     }
 
     /// Puts the burst of the step.
-    fn serve(&mut self, x: &Transaction, service: Service, out: &mut Burst)
+    fn serve(&mut self, due: &Due, out: &mut Burst)
         requires { out.old ≡ [] }
-        ensures { (plan : Plan) (past : Trace) (p : ℕ) → HomeStands self.old plan past → IsDue plan.header past p x.now service
-            → IsTurn self.new plan past p out.new }
+        ensures { (plan : Plan) (past : Trace) (p : ℕ) → HomeStands self.old plan past
+            → IsDue plan.header past p due.now
+            → IsServing self.new plan past p due.now out.new }
     {
-        self.put(service.first(), out);
-        if service.responds() {
+        let x = &due.transaction;
+        let Some(first) = due.service.first() else {
+            self.put_snoops(x, out);
+            return;
+        };
+        self.put(first, out);
+        if due.service.responds() {
             let response = Event::B {
                 port: x.port,
                 id: x.id,
@@ -144,10 +191,13 @@ impl Home {
 }
 
 impl Engine for Home {
-    ghost use Rattle.std.specs.Prelude.{true};
-    ghost use Rattle.ace_engine.specs.Engines.{Home as OfLines};
+    ghost use Rattle.std.specs.Prelude.{◌≡◌, ◌<◌, [], true, false, IsTrue};
+    ghost use Rattle.ace_runs.specs.Bursts.{onto};
+    ghost use Rattle.ace_runs.specs.Steps.{is_enabled_by, is_step_by};
+    ghost use Rattle.ace_engine.specs.Engines.{Home as OfLines, numbers_of};
     ghost use Rattle.ace_home.specs.EngineLaws.{grows, legal};
     ghost use Rattle.ace_home.specs.Home.{HomeStands};
+    ghost use Rattle.ace_home.specs.Turns.{IsLeastStep};
 
     ghost kind = { OfLines };
 
@@ -159,11 +209,26 @@ impl Engine for Home {
 
     ghost grows = { grows };
 
-    fn turn(&mut self, port: u8, out: &mut Burst) -> bool {
-        let Some((x, service)) = self.next(port) else {
+    /// Puts the step of least number that is enabled for the port, and of those of one number that for
+    /// the oldest transaction. A transaction that is snooped has all its snoops at once.
+    fn turn(&mut self, port: u8, out: &mut Burst) -> bool
+        requires stands { (plan : Plan) × (past : Trace) × HomeStands self.old plan past
+            × (port < plan.header.ports) }
+        requires out { out.old ≡ [] }
+        ensures step { IsTrue result → (plan : Plan) (past : Trace) → HomeStands self.old plan past
+            → is_step_by (numbers_of OfLines) plan past port out.new ≡ true }
+        ensures stands { IsTrue result → (plan : Plan) (past : Trace)
+            → HomeStands self.old plan past → HomeStands self.new plan (onto out.new past) }
+        ensures none { result ≡ false → (plan : Plan) (past : Trace) → HomeStands self.old plan past
+            → is_enabled_by (numbers_of OfLines) plan past port ≡ false }
+        ensures unchanged { result ≡ false → (self.new ≡ self.old) × (out.new ≡ []) }
+        ensures least { IsTrue result → (plan : Plan) (past : Trace) → HomeStands self.old plan past
+            → IsLeastStep plan past port out.new }
+    {
+        let Some(due) = self.next(port) else {
             return false;
         };
-        self.serve(&x, service, out);
+        self.serve(&due, out);
         true
     }
 

@@ -3,6 +3,7 @@
 #![tactic(auto)]
 
 mod candidates;
+mod due;
 mod home;
 mod queues;
 mod service;

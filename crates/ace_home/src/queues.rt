@@ -73,7 +73,7 @@ impl Home {
         ensures { (plan : Plan) (past : Trace) → HomeStands self.now plan past → granted plan.header past x.now.addr ≡ None
             → result ≡ is_first_to_wait plan.header past x.now }
     {
-        for port in 0..self.ports {
+        for port in 0..self.header.ports {
             if self.has_older(port, Channel::Read, x) {
                 return false;
             }

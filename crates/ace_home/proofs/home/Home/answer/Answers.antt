@@ -1,21 +1,33 @@
-use Rattle.std.proofs.Common.{sym, subst, ◌∙◌}
-use Rattle.ace_model.proofs.General.Options.{Some-injective}
-use Rattle.ace_home.specs.declared.service.Service.TheVariants as service
-use Rattle.ace_home.specs.Services.{IsService}
+use Rattle.std.proofs.Common.{sym, ◌∙◌}
+use Rattle.ace_home.proofs.FirstEvents.{grant-had, read-no-write}
+use Rattle.ace_home.proofs.Firsts.{below-passed, below-transfer, takes-none}
+use Rattle.ace_home.proofs.Kept.{had-served}
 use Rattle.ace_home.proofs.home.Home.answer.Goals as goal
 
-pub returns-in-Some-clause-some : goal.returns-in-Some-clause-some
-returns-in-Some-clause-some c = λ s is plan past p t chan.
+pub returns-in-Some : goal.returns-in-Some
+returns-in-Some c = λ plan past p v chan unsnooped.
+    let h = plan.header in
     let x = c.args.x.now.transaction in
-    subst (IsService plan.header past x) (Some-injective (service.Passed c.in-Some.event) s is) (sym (c.passed.ensures plan past p t chan) ∙ c.in-Some.is)
+    let own = had-served c.args.self.now plan past p c.args.place c.args.x.now v in
+    let grant = grant-had h past v.tells.stands.legal.accepted p x v.tells.pending own in
+    (sym (c.passed.ensures plan past p v chan) ∙ c.in-Some.is, below-passed h past x grant unsnooped)
 
-pub returns-in-Some-transfer-clause-some : goal.returns-in-Some-transfer-clause-some
-returns-in-Some-transfer-clause-some c = λ s is plan past p t chan.
+pub returns-in-Some-transfer : goal.returns-in-Some-transfer
+returns-in-Some-transfer c = λ plan past p v chan unsnooped.
+    let h = plan.header in
     let x = c.args.x.now.transaction in
-    subst (IsService plan.header past x) (Some-injective (service.Transfer c.in-Some-transfer.event) s is) (sym (c.transfer.ensures plan past p t chan) ∙ c.in-Some-transfer.is)
+    let own = had-served c.args.self.now plan past p c.args.place c.args.x.now v in
+    let grant = grant-had h past v.tells.stands.legal.accepted p x v.tells.pending own in
+    let passed = sym (c.passed.ensures plan past p v chan) ∙ c.in_default.is in
+    (sym (c.transfer.ensures plan past p v chan) ∙ c.in-Some-transfer.is, below-transfer h past x grant unsnooped passed)
 
-pub returns-in-None-clause-none : goal.returns-in-None-clause-none
-returns-in-None-clause-none c = λ _ plan past p t chan. record {
-  passed = sym (c.passed.ensures plan past p t chan) ∙ c.in_default.is;
-  transfer = sym (c.transfer.ensures plan past p t chan) ∙ c.in-None.is;
-}
+pub returns-in-None : goal.returns-in-None
+returns-in-None c = λ plan past p v chan unsnooped.
+    let h = plan.header in
+    let a = v.tells.stands.legal.accepted in
+    let x = c.args.x.now.transaction in
+    let own = had-served c.args.self.now plan past p c.args.place c.args.x.now v in
+    let grant = grant-had h past a p x v.tells.pending own in
+    let passed = sym (c.passed.ensures plan past p v chan) ∙ c.in_default.is in
+    let transfer = sym (c.transfer.ensures plan past p v chan) ∙ c.in-None.is in
+    takes-none h past x grant unsnooped passed transfer (read-no-write h past a p x v.tells.pending chan)

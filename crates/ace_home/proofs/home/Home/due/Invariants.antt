@@ -1,14 +1,13 @@
 use Rattle.std.proofs.Common.{◌≡◌, ℕ, ◌<◌, Some, slice_get}
-use Rattle.ace_model.specs.declared.transactions.Transaction.{Transaction}
 use Rattle.ace_model.specs.Plans.{Plan}
 use Rattle.ace_model.specs.Trace.{Trace}
 use Rattle.ace_portck.specs.Pending.{pending_of}
 use Rattle.ace_home.specs.Home.{HomeStands}
-use Rattle.ace_home.specs.Services.{ServesNone}
+use Rattle.ace_home.specs.Turns.{IsFirstOf}
 use Rattle.ace_home.proofs.home.Home.due.Given as goal
 
--- no step serves one of the transactions so far
+-- the first step for the transactions so far
 abbrev pub invariant-loop-i : goal.invariant-loop-i
 invariant-loop-i l =
-    (plan : Plan) (past : Trace) (k : ℕ) (x : Transaction) → HomeStands l.fn.self plan past → k < l.i → slice_get (pending_of plan.header past l.fn.port l.fn.chan) k ≡ Some x
-    → ServesNone plan.header past x
+    (plan : Plan) (past : Trace) → HomeStands l.fn.self plan past
+    → IsFirstOf plan.header past l.fn.port (λ y. (k : ℕ) × (k < l.i) × (slice_get (pending_of plan.header past l.fn.port l.fn.chan) k ≡ Some y)) l.first

@@ -2,15 +2,9 @@ use Rattle.std.proofs.Common.{◌≡◌, true, Some, sym, ap, ◌∙◌}
 use Rattle.ace_event.specs.declared.event.Event.{Event}
 use Rattle.ace_runs.specs.Bursts.{is_kept}
 use Rattle.ace_home.specs.Home.{grant_of}
-use Rattle.ace_home.proofs.FirstEvents.{grant-first, grant-had, grant-later, grant-not-kept, kept-is}
-use Rattle.ace_home.proofs.Kept.{had}
+use Rattle.ace_home.proofs.FirstEvents.{grant-first, grant-later, grant-not-kept, kept-is}
 use Rattle.ace_home.proofs.Waiting.{kept-free}
 use Rattle.ace_home.proofs.home.Home.grant.Goals as goal
-
-pub returns-then-x : goal.returns-then-x
-returns-then-x c = λ plan past p t.
-    let x = c.args.x.now in
-    sym (grant-had plan.header past t.stands.legal.accepted p x.transaction t.pending (had c.args.self.now plan past p x true t c.if-x.true))
 
 pub returns-then-not-keeps : goal.returns-then-not-keeps
 returns-then-not-keeps c = λ plan past p t.

@@ -1,6 +1,7 @@
-use Rattle.std.proofs.Common.{◌≡◌, false, Some, slice_get, sym, subst, inl, inr, arith}
+use Rattle.std.proofs.Common.{◌≡◌, false, Some, slice_get, sym, ap, subst, inl, inr, arith}
 use Rattle.std.proofs.lemmas.Bool.{cases_eq}
 use Rattle.ace_event.specs.declared.event.Channel.{Channel}
+use Rattle.ace_event.specs.declared.header.Header.{Header}
 use Rattle.ace_portck.specs.Pending.{pending_of}
 use Rattle.ace_home.specs.Home.{goes_before}
 use Rattle.ace_home.proofs.Kept.{of-each-channel}
@@ -31,7 +32,7 @@ loop-port-preserved c = λ plan past q d k y s low at.
 
 pub returns : goal.returns
 returns c = λ plan past s free.
-    let ports = s.ports in
+    let ports = ap (λ (g : Header). g.ports) s.header in
     let high = c.loop-port-test.false in
     let end = c.loop-port.auto.port-end in
     sym (first-where plan.header past s.legal.accepted c.args.x.now free (λ q y low o. c.loop-port.invariant plan past q y.chan o.0 y s (omega (arith, low, ports, high, end)) o.1))

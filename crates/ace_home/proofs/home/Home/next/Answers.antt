@@ -1,15 +1,18 @@
-use Rattle.std.proofs.Common.{◌≡◌, ℕ, Some, slice_get, ◌∙◌}
+use Rattle.std.proofs.Common.{◌≡◌, ℕ, ◌⊎◌, Some, slice_get, sym, subst, inl, inr}
 use Rattle.ace_event.specs.declared.event.Channel.{Channel}
+use Rattle.ace_event.specs.declared.event.Channel.TheVariants.{Read, Write}
 use Rattle.ace_portck.specs.Pending.{pending_of}
-use Rattle.ace_home.specs.Services.{ServesNone}
+use Rattle.ace_home.specs.Home.{IsListed, IsOf}
+use Rattle.ace_home.specs.Turns.{IsFirstOf}
+use Rattle.ace_home.proofs.Firsts.{first-sooner}
 use Rattle.ace_home.proofs.Kept.{of-each-channel}
 use Rattle.ace_home.proofs.home.Home.next.Goals as goal
 
-pub returns-in-Some-clause-some : goal.returns-in-Some-clause-some
-returns-in-Some-clause-some c = λ x s is plan past stands. c.due.ensures.some x s (c.in-Some.is ∙ is) plan past stands
-
-pub returns-clause-none : goal.returns-clause-none
-returns-clause-none c = λ none plan past x stands o.
-    of-each-channel (λ (d : Channel). (k : ℕ) → slice_get (pending_of plan.header past c.args.port d) k ≡ Some x → ServesNone plan.header past x)
-    (λ k at. c.due.ensures.none c.in_default.is plan past k x stands at)
-    (λ k at. c.due-2.ensures.none none plan past k x stands at) x.chan o.0 o.1
+pub returns : goal.returns
+returns c = λ plan past stands.
+    let h = plan.header in
+    let p = c.args.port in
+    subst (IsFirstOf h past p (IsOf h past p)) (sym c.sooner.ensures)
+    (first-sooner h past p (IsListed h past p Read) (IsListed h past p Write) (IsOf h past p) c.due.result c.due-2.result (c.due.ensures plan past stands) (c.due-2.ensures plan past stands)
+    (λ y o. of-each-channel (λ (d : Channel). (k : ℕ) → slice_get (pending_of h past p d) k ≡ Some y → IsListed h past p Read y ⊎ IsListed h past p Write y) (λ k at. inl (k, at))
+    (λ k at. inr (k, at)) y.chan o.0 o.1))

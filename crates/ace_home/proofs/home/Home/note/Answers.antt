@@ -5,5 +5,5 @@ pub returns : goal.returns
 returns c = λ plan past s legal. record {
   legal = legal;
   shares = c.hear.ensures plan.header past s.shares (may-hear plan past c.args.event.now legal);
-  ports = s.ports;
+  header = s.header;
 }

@@ -1,44 +1,36 @@
-use Rattle.std.proofs.Common.{sym, subst, ◌∙◌}
-use Rattle.ace_model.proofs.General.Options.{Some-injective}
-use Rattle.ace_home.specs.declared.service.Service.TheVariants as service
-use Rattle.ace_home.specs.Services.{IsService}
-use Rattle.ace_home.proofs.FirstEvents.{read-no-write, write-no-passed, write-no-transfer}
+use Rattle.std.proofs.Common.{◌≡◌, false, Some, sym, ap, ◌∙◌}
+use Rattle.ace_lineck.specs.Stands.{place_on}
+use Rattle.ace_home.specs.Home.{IsServed}
+use Rattle.ace_home.proofs.FirstEvents.{grant-had}
+use Rattle.ace_home.proofs.Firsts.{below-grant, below-snoops, ungranted-takes-none}
+use Rattle.ace_home.proofs.Kept.{had, had-served}
 use Rattle.ace_home.proofs.home.Home.service.Goals as goal
 
-pub returns-in-Some-clause-some : goal.returns-in-Some-clause-some
-returns-in-Some-clause-some c = λ s is plan past p t.
-    subst (IsService plan.header past c.args.x.now.transaction) (Some-injective (service.Grant c.in-Some.grant) s is) (sym (c.grant.ensures plan past p t) ∙ c.in-Some.is)
-
-pub returns-in-Some-snoop-clause-some : goal.returns-in-Some-snoop-clause-some
-returns-in-Some-snoop-clause-some c = λ s is plan past p t.
-    subst (IsService plan.header past c.args.x.now.transaction) (Some-injective (service.Snoop c.in-Some-snoop.snoop) s is) (c.snoop.ensures.some c.in-Some-snoop.snoop c.in-Some-snoop.is plan past p t)
-
-pub returns-in-Read-clause-some : goal.returns-in-Read-clause-some
-returns-in-Read-clause-some c = λ s is plan past p t. c.answer.ensures.some s is plan past p t c.in-Read.is
-
-pub returns-in-Read-clause-none : goal.returns-in-Read-clause-none
-returns-in-Read-clause-none c = λ none plan past p t.
-    let answers = c.answer.ensures.none none plan past p t c.in-Read.is in
-    record {
-      grant = sym (c.grant.ensures plan past p t) ∙ c.in_default.is;
-      snoop = c.snoop.ensures.none c.in_default-snoop.is plan past p t;
-      passed = answers.passed;
-      transfer = answers.transfer;
-      write = read-no-write plan.header past t.stands.legal.accepted p c.args.x.now.transaction t.pending c.in-Read.is;
-    }
-
-pub returns-in-Some-write-clause-some : goal.returns-in-Some-write-clause-some
-returns-in-Some-write-clause-some c = λ s is plan past p t.
-    subst (IsService plan.header past c.args.x.now.transaction) (Some-injective (service.Write c.in-Some-write.event) s is) (sym (c.write.ensures plan past p t c.in-Write.is) ∙ c.in-Some-write.is)
-
-pub returns-in-None-clause-none : goal.returns-in-None-clause-none
-returns-in-None-clause-none c = λ _ plan past p t.
-    let a = t.stands.legal.accepted in
+pub returns-in-None : goal.returns-in-None
+returns-in-None c = λ plan past p t.
     let x = c.args.x.now.transaction in
-    record {
-      grant = sym (c.grant.ensures plan past p t) ∙ c.in_default.is;
-      snoop = c.snoop.ensures.none c.in_default-snoop.is plan past p t;
-      passed = write-no-passed plan.header past a p x t.pending c.in-Write.is;
-      transfer = write-no-transfer plan.header past a p x t.pending c.in-Write.is;
-      write = sym (c.write.ensures plan past p t c.in-Write.is) ∙ c.in-None.is;
-    }
+    ungranted-takes-none plan.header past x t.stands.legal.accepted p t.pending (had c.args.self.now plan past p c.args.x.now false t c.if-not-x.true)
+    (sym (c.grant.ensures plan past p t) ∙ c.in-None.is)
+
+pub returns-in-Some : goal.returns-in-Some
+returns-in-Some c = λ plan past p t. (sym (c.grant.ensures plan past p t) ∙ c.in-Some.is, below-grant plan.header past c.args.x.now.transaction)
+
+pub returns-then-has_snoop : goal.returns-then-has_snoop
+returns-then-has_snoop c = λ plan past p t.
+    let h = plan.header in
+    let x = c.args.x.now in
+    let at : c.place-place.result ≡ place_on c.args.self.now.shares.lines (Some x.transaction.addr) =
+    c.place-place.ensures ∙ ap (λ l. place_on l (Some x.transaction.addr)) c.lines.ensures in
+    let v : IsServed c.args.self.now plan past p c.place-place.result x = record { tells = t; granted = c.if-not-x.false; at = at } in
+    let own = had-served c.args.self.now plan past p c.place-place.result x v in (
+      sym (c.has_snoop.ensures plan past p v) ∙ c.if-has_snoop.true,
+      below-snoops h past x.transaction (grant-had h past t.stands.legal.accepted p x.transaction t.pending own),
+    )
+
+pub returns : goal.returns
+returns c = λ plan past p t.
+    let x = c.args.x.now in
+    let at : c.place-place.result ≡ place_on c.args.self.now.shares.lines (Some x.transaction.addr) =
+    c.place-place.ensures ∙ ap (λ l. place_on l (Some x.transaction.addr)) c.lines.ensures in
+    let v : IsServed c.args.self.now plan past p c.place-place.result x = record { tells = t; granted = c.if-not-x.false; at = at } in
+    c.reply.ensures plan past p v (sym (c.has_snoop.ensures plan past p v) ∙ c.if-has_snoop.false)

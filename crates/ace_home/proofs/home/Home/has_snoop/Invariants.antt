@@ -4,7 +4,7 @@ use Rattle.ace_model.specs.Trace.{Trace}
 use Rattle.ace_runs.specs.Bursts.{is_kept}
 use Rattle.ace_runs.specs.LineSteps.{snoop_for}
 use Rattle.ace_home.specs.Home.{HomeStands}
-use Rattle.ace_home.proofs.home.Home.snoop.Given as goal
+use Rattle.ace_home.proofs.home.Home.has_snoop.Given as goal
 
 -- none of the ports so far may be snooped for it
 abbrev pub invariant-loop-port : goal.invariant-loop-port
