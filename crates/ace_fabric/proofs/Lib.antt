@@ -28,3 +28,5 @@ pub mod PortMasters
 pub mod ScriptMasters
 -- The parts of a run whose plan grows.
 pub mod LongerRuns
+-- What is kept of idle ports, where there is none.
+pub mod NoneIdle

@@ -8,3 +8,5 @@ pub mod Left
 pub mod PortMaster
 -- The start of the run of a script.
 pub mod System
+-- The ports of which it is known that they aren't enabled.
+pub mod Idle

@@ -7,8 +7,10 @@ use Rattle.ace_model.specs.Trace.{Trace}
 use Rattle.ace_runs.specs.Bursts.{onto}
 use Rattle.ace_runs.specs.Steps.{IsStep, is_enabled}
 use Rattle.ace_engine.specs.declared.engine.Engine.{Ghosts}
+use Rattle.ace_fabric.specs.Idle.{AreIdle}
 use Rattle.ace_fabric.specs.Left.{LeftStands}
 use Rattle.ace_fabric.specs.Parts.{AreEngines}
+use Rattle.ace_fabric.specs.declared.idle.IdlePorts.{IdlePorts}
 use Rattle.ace_fabric.specs.declared.left.Left.{Left}
 
 -- A plan, how many more operations there is room for, and the trace of its run so far.
@@ -21,11 +23,15 @@ pub record Run : Type 0 where
 abbrev pub events_of : PlanWithRoom → ℕ
 events_of view = (length view.plan.operations + view.room) * 256
 
--- The engines are those of the run, there is room for each event that it can have, and what is kept of it tells what is left to do.
-pub record IsRunning {H U O M : Type 0} (h : Ghosts H) (u : Ghosts U) (o : Ghosts O) (m : Ghosts M) (view : PlanWithRoom) (past : Trace) (capacity : ℕ) (home : H) (update : U) (order : O) (masters : List M) (left : Left) : Type 0 where
+-- The engines are those of the run, there is room for each event that it can have, and what is kept
+-- of it tells what is left to do, and of which ports none is enabled.
+pub record IsRunning {H U O M : Type 0} (h : Ghosts H) (u : Ghosts U) (o : Ghosts O) (m : Ghosts M)
+    (view : PlanWithRoom) (past : Trace) (capacity : ℕ) (home : H) (update : U) (order : O)
+    (masters : List M) (left : Left) (idle : IdlePorts) : Type 0 where
   pub engines : AreEngines h u o m view.plan past home update order masters
   pub room : events_of view ≤ capacity
   pub left_is : LeftStands left view.plan past
+  pub idle_are : AreIdle view.plan past idle
 
 -- the run with these events at its end
 abbrev pub continued : List Event → Run → Run

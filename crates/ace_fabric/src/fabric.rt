@@ -12,6 +12,7 @@ ghost use Rattle.ace_fabric.specs.Parts.{AreEngines};
 ghost use Rattle.ace_fabric.specs.Runs.{AreTurnsBy, continued, grown};
 
 use crate::growing::give;
+use crate::idle::IdlePorts;
 use crate::left::Left;
 use crate::moving::by_any;
 use ace_engine::{Burst, Engine};
@@ -45,6 +46,9 @@ pub struct Fabric<H: Engine, U: Engine, O: Engine, M: Engine> {
     order: O,
     masters: Vec<M>,
     left: Left,
+    /// The events of the last turn that put a step, if it isn't empty: it stays, as a new one is written whole.
+    burst: Burst,
+    idle: IdlePorts,
 }
 
 impl<H: Engine, U: Engine, O: Engine, M: Engine> Model for Fabric<H, U, O, M> {
@@ -55,7 +59,16 @@ impl<H: Engine, U: Engine, O: Engine, M: Engine> Model for Fabric<H, U, O, M> {
 
     ghost view = { λ s. record { plan = s.plan.plan; room = s.plan.room; past = reverse s.events.items } };
 
-    ghost invariant = { λ s. IsRunning H.Engine U.Engine O.Engine M.Engine s.plan (reverse s.events.items) (vec_capacity s.events) s.home s.update s.order s.masters.items s.left };
+    ghost invariant = { λ s. IsRunning H.Engine U.Engine O.Engine M.Engine s.plan (reverse s.events.items) (vec_capacity s.events) s.home s.update s.order s.masters.items s.left s.idle };
+}
+
+/// Empties the burst. Where it is empty, as after a turn without a step, it isn't written.
+fn empty(burst: &mut Burst)
+    ensures { burst.new ≡ [] }
+{
+    if burst.len() != 0 {
+        *burst = Burst::empty();
+    }
 }
 
 /// Puts the burst at the end of the events, for which there is room.
@@ -89,6 +102,7 @@ impl<H: Engine + Drop, U: Engine + Drop, O: Engine + Drop, M: Engine + Drop> Fab
     /// # Errors
     ///
     /// `NoMemory` where there is none for the events.
+    #[tactic(auto, using(crate::proofs::NoneIdle::none_idle))]
     pub fn new(
         alloc: Global,
         plan: Plan,
@@ -113,6 +127,8 @@ impl<H: Engine + Drop, U: Engine + Drop, O: Engine + Drop, M: Engine + Drop> Fab
             order,
             masters,
             left,
+            burst: Burst::empty(),
+            idle: IdlePorts::none(),
         })
     }
 }
@@ -151,25 +167,31 @@ impl<H: Engine, U: Engine, O: Engine, M: Engine> Fabric<H, U, O, M> {
     }
 
     /// A turn of the port: its master, the engine of memory updates, the home and the engine of barriers and DVM are asked, in this order, and the
-    /// first that has a step for the port takes it. It takes no memory.
+    /// first that has a step for the port takes it. Where the last turn of the port put none, and nothing has come since, none is asked. It takes
+    /// no memory.
     pub fn turn(&mut self, port: u8) -> Turn
         requires { port < self.old.plan.header.ports }
         ensures moved { result ≡ Turn.Moved → (burst : List Event) × IsStep self.old.plan self.old.past port burst × (self.new ≡ continued burst self.old) }
         ensures idle { result ≡ Turn.Idle → (self.new ≡ self.old) × (is_enabled self.old.plan self.old.past port ≡ false) }
     {
-        let mut out = Burst::empty();
+        if self.idle.has(port) {
+            return Turn::Idle;
+        }
+        empty(&mut self.burst);
         if !by_any(
             &mut self.home,
             &mut self.update,
             &mut self.order,
             self.masters.as_mut_slice(),
             port,
-            &mut out,
+            &mut self.burst,
         ) {
+            self.idle.add(port);
             return Turn::Idle;
         }
-        append(&mut self.events, &out);
-        self.left.hear_all(&out);
+        append(&mut self.events, &self.burst);
+        self.left.hear_all(&self.burst);
+        self.idle = IdlePorts::none();
         Turn::Moved
     }
 
@@ -230,5 +252,6 @@ impl<H: Engine, U: Engine, O: Engine, M: Master> Fabric<H, U, O, M> {
         lengthen(&mut self.plan, port, op);
         give(self.masters.as_mut_slice(), port, op);
         self.left.push(port);
+        self.idle = IdlePorts::none();
     }
 }

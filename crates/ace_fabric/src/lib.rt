@@ -4,6 +4,7 @@
 mod fabric;
 mod growing;
 mod hearing;
+mod idle;
 mod left;
 mod masters;
 mod moving;

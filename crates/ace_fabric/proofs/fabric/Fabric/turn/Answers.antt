@@ -1,14 +1,17 @@
-use Rattle.std.proofs.Common.{◌∙◌, ap, arith, length, reverse, sym, subst, List}
+use Rattle.std.proofs.Common.{◌≡◌, ◌∙◌, ap, arith, false, inl, inr, length, refl, reverse, sym, subst, true, List}
 use Rattle.std.specs.Vec.{with_items}
+use Rattle.std.proofs.lemmas.Bool.{cases_eq, ne_eqb}
 use Rattle.std.proofs.lemmas.List.{length-reverse, with_items_is}
 use Rattle.ace_model.specs.Trace.{Trace}
 use Rattle.ace_runs.specs.Bursts.{onto}
-use Rattle.ace_runs.specs.Steps.{IsStep}
+use Rattle.ace_runs.specs.Steps.{IsStep, is_enabled}
 use Rattle.ace_runs.proofs.Few.Bound.{few-events}
+use Rattle.ace_fabric.specs.Idle.{is_idle}
 use Rattle.ace_fabric.specs.Left.{LeftStands}
 use Rattle.ace_fabric.specs.Parts.{AreEngines}
 use Rattle.ace_fabric.specs.Runs.{Run, continued}
 use Rattle.ace_fabric.proofs.Continued.{onto-length}
+use Rattle.ace_fabric.proofs.NoneIdle.{none_idle}
 use Rattle.ace_fabric.proofs.fabric.Fabric.turn.Goals as goal
 
 pub append-requires : goal.append-requires
@@ -22,6 +25,43 @@ append-requires g c =
     let turned = length-reverse c.self.inside.events.items in
     let room = c.self.invariant.room in
     omega (arith, few, long, turned, room)
+
+pub returns-then-has-clause-idle : goal.returns-then-has-clause-idle
+returns-then-has-clause-idle g c = λ _.
+    let none = c.self.invariant.idle_are c.args.port (sym c.has.ensures ∙ c.if-has.true) in
+    (refl, subst (λ (r : Run). is_enabled r.plan r.past c.args.port ≡ false) c.self.view_is none)
+
+pub returns-then-not-by_any-clause-idle : goal.returns-then-not-by_any-clause-idle
+returns-then-not-by_any-clause-idle g c = λ _.
+    let plan = c.self.inside.plan.plan in
+    let past = reverse c.self.inside.events.items in
+    let asked = subst (λ (ms : List g.row.M.Denot). AreEngines g.H.Engine g.U.Engine g.O.Engine g.M.Engine plan past c.self.inside.home c.self.inside.update c.self.inside.order ms)
+    (sym c.as_mut_slice.ensures.value) c.self.invariant.engines in
+    let none = c.by_any.ensures.none c.if-not-by_any.true plan past asked in
+    (c.self.view_is, subst (λ (r : Run). is_enabled r.plan r.past c.args.port ≡ false) c.self.view_is none)
+
+pub invariant_of-self : goal.invariant_of-self
+invariant_of-self g c =
+    let plan = c.self.inside.plan.plan in
+    let past = reverse c.self.inside.events.items in
+    let asked = subst (λ (ms : List g.row.M.Denot). AreEngines g.H.Engine g.U.Engine g.O.Engine g.M.Engine plan past c.self.inside.home c.self.inside.update c.self.inside.order ms)
+    (sym c.as_mut_slice.ensures.value) c.self.invariant.engines in
+    let none = c.by_any.ensures.none c.if-not-by_any.true plan past asked in
+    let u = c.by_any.ensures.unchanged c.if-not-by_any.true in
+    let same = ap length u.3 ∙ ap length c.as_mut_slice.ensures.value ∙ sym c.self.inside.masters.ok.0 in
+    let items = with_items_is c.self.inside.masters c.by_any.new.masters same ∙ u.3 in
+    record {
+      engines = rw (u.0, u.1, u.2, items) asked;
+      room = c.self.invariant.room;
+      left_is = c.self.invariant.left_is;
+      idle_are = λ p some. elim (cases_eq p c.args.port) [
+        | inl here ↦ subst (λ q. is_enabled plan past q ≡ false) (sym here) none
+        | inr off ↦
+            let more = c.add.ensures p in
+            let old : is_idle c.self.inside.idle p ≡ true = sym (rw (ne_eqb p c.args.port off) at more) ∙ some in
+            c.self.invariant.idle_are p old
+      ];
+    }
 
 pub invariant_of-self-2 : goal.invariant_of-self-2
 invariant_of-self-2 g c =
@@ -42,6 +82,7 @@ invariant_of-self-2 g c =
           (subst (λ (ms : List g.row.M.Denot). AreEngines g.H.Engine g.U.Engine g.O.Engine g.M.Engine view.plan (onto out past) c.by_any.new.home c.by_any.new.update c.by_any.new.order ms) (sym items) moved.1);
       room = omega (arith, room, capacity);
       left_is = subst (λ (t : Trace). LeftStands c.hear_all.new.self view.plan t) (sym c.append.ensures.items) (c.hear_all.ensures view.plan past c.self.invariant.left_is moved.1.legal);
+      idle_are = none_idle view.plan (reverse c.append.new.events.items) c.none-self-inside.result c.none-self-inside.ensures;
     }
 
 pub returns-clause-moved : goal.returns-clause-moved
