@@ -46,7 +46,8 @@ pub struct Fabric<H: Engine, U: Engine, O: Engine, M: Engine> {
     order: O,
     masters: Vec<M>,
     left: Left,
-    /// The events of the last turn that put a step, if it isn't empty: it stays, as a new one is written whole.
+    /// The events of the last turn that put a step, if it isn't empty: it stays, as a new one is
+    /// written whole.
     burst: Burst,
     idle: IdlePorts,
 }
@@ -59,7 +60,9 @@ impl<H: Engine, U: Engine, O: Engine, M: Engine> Model for Fabric<H, U, O, M> {
 
     ghost view = { λ s. record { plan = s.plan.plan; room = s.plan.room; past = reverse s.events.items } };
 
-    ghost invariant = { λ s. IsRunning H.Engine U.Engine O.Engine M.Engine s.plan (reverse s.events.items) (vec_capacity s.events) s.home s.update s.order s.masters.items s.left s.idle };
+    ghost invariant = { λ s. IsRunning H.Engine U.Engine O.Engine M.Engine s.plan
+        (reverse s.events.items) (vec_capacity s.events) s.home s.update s.order s.masters.items
+        s.left s.idle };
 }
 
 /// Empties the burst. Where it is empty, as after a turn without a step, it isn't written.
@@ -166,9 +169,10 @@ impl<H: Engine, U: Engine, O: Engine, M: Engine> Fabric<H, U, O, M> {
         self.left.is_none(self.plan.view().header().ports)
     }
 
-    /// A turn of the port: its master, the engine of memory updates, the home and the engine of barriers and DVM are asked, in this order, and the
-    /// first that has a step for the port takes it. Where the last turn of the port put none, and nothing has come since, none is asked. It takes
-    /// no memory.
+    /// A turn of the port: its master, the engine of memory updates, the home and the engine of
+    /// barriers and DVM are asked, in this order, and the first that has a step for the port takes
+    /// it. Where the last turn of the port put none, and nothing has come since, none is asked. It
+    /// takes no memory.
     pub fn turn(&mut self, port: u8) -> Turn
         requires { port < self.old.plan.header.ports }
         ensures moved { result ≡ Turn.Moved → (burst : List Event) × IsStep self.old.plan self.old.past port burst × (self.new ≡ continued burst self.old) }

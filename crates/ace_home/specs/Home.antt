@@ -38,8 +38,8 @@ pub record Tells (s : Home) (plan : Plan) (past : Trace) (p : ℕ) (x : Progress
   pub is : x ≡ progress_of plan.header past x.transaction
 
 -- It tells this of a granted one, whose line is kept at the place.
-pub record IsServed (s : Home) (plan : Plan) (past : Trace) (p : ℕ) (place : Option ℕ) (x : Progress)
-    : Type 0 where
+pub record IsServed (s : Home) (plan : Plan) (past : Trace) (p : ℕ) (place : Option ℕ)
+    (x : Progress) : Type 0 where
   pub tells : Tells s plan past p x
   pub granted : x.granted ≡ true
   pub at : place ≡ place_on s.shares.lines (Some x.transaction.addr)

@@ -47,9 +47,11 @@ first_kept h past (e ∷ burst) = if_kept h past e
 abbrev pub has_snoop : Header → Trace → Transaction → Bool
 has_snoop h past x =
     is_granted h past x
-    && is_some_and (snoop_of x) (λ k. list_any (λ q. is_kept h past (snoop_for x k q)) (ports_below h.ports))
+    && is_some_and (snoop_of x)
+    (λ k. list_any (λ q. is_kept h past (snoop_for x k q)) (ports_below h.ports))
 
--- Step n may be taken for the transaction: its burst may begin or, of step 6, a port may be snooped.
+-- Step n may be taken for the transaction: its burst may begin or, of step 6, a port may be
+-- snooped.
 abbrev pub may_take : ℕ → Header → Trace → Transaction → Bool
 may_take n h past x =
     if n == 5 then may_begin h past (grant_burst h past x)
@@ -82,8 +84,8 @@ TakesNoneBelow n h past x = (m : ℕ) → m < n → may_take m h past x ≡ fals
 abbrev pub all_steps : ℕ
 all_steps = 10
 
--- The event is the first of the burst of such a step for the transaction, and breaks no rule; or a port
--- may be snooped for it.
+-- The event is the first of the burst of such a step for the transaction, and breaks no rule; or a
+-- port may be snooped for it.
 abbrev pub IsService : Header → Trace → Transaction → Service → Type 0
 IsService h past x (Grant e) = first_kept h past (grant_burst h past x) ≡ Some e
 IsService h past x Snoops = has_snoop h past x ≡ true

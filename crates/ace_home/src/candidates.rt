@@ -144,8 +144,8 @@ impl Home {
         }
     }
 
-    /// The port may be snooped for the transaction, which causes such snoops. No ACE-Lite port may, so
-    /// of such none is asked.
+    /// The port may be snooped for the transaction, which causes such snoops. No ACE-Lite port may,
+    /// so of such none is asked.
     pub(crate) fn may_snoop(&self, x: &Transaction, kind: SnoopKind, port: u8) -> bool
         ensures { (plan : Plan) (past : Trace) → HomeStands self.now plan past
             → result ≡ is_kept plan.header past (snoop_for x.now kind port) }

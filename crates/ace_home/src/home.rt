@@ -209,8 +209,8 @@ impl Engine for Home {
 
     ghost grows = { grows };
 
-    /// Puts the step of least number that is enabled for the port, and of those of one number that for
-    /// the oldest transaction. A transaction that is snooped has all its snoops at once.
+    /// Puts the step of least number that is enabled for the port, and of those of one number that
+    /// for the oldest transaction. A transaction that is snooped has all its snoops at once.
     fn turn(&mut self, port: u8, out: &mut Burst) -> bool
         requires stands { (plan : Plan) × (past : Trace) × HomeStands self.old plan past
             × (port < plan.header.ports) }

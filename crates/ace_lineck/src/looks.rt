@@ -1,5 +1,6 @@
-//! What the interconnect looks up of a line to answer the transaction that is granted on it, and what
-//! that waits for, told without a rule: what can't come as long as it waits need not be asked for.
+//! What the interconnect looks up of a line to answer the transaction that is granted on it, and
+//! what that waits for, told without a rule: what can't come as long as it waits need not be asked
+//! for.
 
 ghost use Rattle.std.specs.Prelude.{◌≡◌, ◌≤◌, ◌||◌, ℕ, false, length};
 ghost use Rattle.std.specs.List.{list_any};

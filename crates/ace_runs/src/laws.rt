@@ -155,10 +155,11 @@ pub fn length_is_bounded()
 {}
 
 /// Each event of a run that follows a right plan so far can be written in the version of the plan's
-/// header: its port, identifier, codes, response and number have the digits of their fields, where its
-/// address, word, strobe and line have the widths of their types.
+/// header: its port, identifier, codes, response and number have the digits of their fields, where
+/// its address, word, strobe and line have the widths of their types.
 pub fn each_event_is_in_range()
-    ensures { (plan : Plan) (past : Trace) → IsRight plan → AreSteps plan past → FollowsSoFar plan past
+    ensures { (plan : Plan) (past : Trace) → IsRight plan → AreSteps plan past
+        → FollowsSoFar plan past
         → AllByRecursion (IsWritable plan.header.version) past }
 {}
 

@@ -10,29 +10,42 @@ ghost use Rattle.ace_top.specs.Command.{writing};
 ghost use Rattle.ace_top.specs.Show.{ShowsFront};
 ghost use Rattle.ace_top.specs.Texts.{status_of};
 
-/// To each input one answer of a command is due, with one text for the standard output; of a command
-/// that runs a script so where the input isn't a whole one, else answers of one status. So a status
-/// of `ace` but those of faults and of want of memory comes exactly where the answer that is due has
-/// it.
+/// To each input one answer of a command is due, with one text for the standard output; of a
+/// command that runs a script so where the input isn't a whole one, else answers of one status. So
+/// a status of `ace` but those of faults and of want of memory comes exactly where the answer that
+/// is due has it.
 pub fn one_answer_is_due()
-    ensures some { (command : Command) (bytes : List ℕ) (left : Option (List ℕ)) → IsSettled command bytes
-        → (answer : Answer) × (text : List ℕ) × IsDue answer × FitsAnswer command answer text × IsAnswer command (Some bytes) left answer text }
-    ensures one { (command : Command) (bytes : List ℕ) (left last : Option (List ℕ)) (answer other : Answer) (text more : List ℕ)
-        → IsSettled command bytes → IsDue answer → IsDue other → FitsAnswer command answer text → FitsAnswer command other more
-        → IsAnswer command (Some bytes) left answer text → IsAnswer command (Some bytes) last other more → (answer ≡ other) × (text ≡ more) }
-    ensures status { (command : Command) (bytes : List ℕ) (left last : Option (List ℕ)) (answer other : Answer) (text more : List ℕ)
-        → IsDue answer → IsDue other → FitsAnswer command answer text → FitsAnswer command other more
-        → IsAnswer command (Some bytes) left answer text → IsAnswer command (Some bytes) last other more → status_of answer ≡ status_of other }
+    ensures some { (command : Command) (bytes : List ℕ) (left : Option (List ℕ))
+        → IsSettled command bytes
+        → (answer : Answer) × (text : List ℕ) × IsDue answer × FitsAnswer command answer text
+        × IsAnswer command (Some bytes) left answer text }
+    ensures one { (command : Command) (bytes : List ℕ) (left last : Option (List ℕ))
+        (answer other : Answer) (text more : List ℕ)
+        → IsSettled command bytes → IsDue answer → IsDue other
+        → FitsAnswer command answer text → FitsAnswer command other more
+        → IsAnswer command (Some bytes) left answer text
+        → IsAnswer command (Some bytes) last other more → (answer ≡ other) × (text ≡ more) }
+    ensures status { (command : Command) (bytes : List ℕ) (left last : Option (List ℕ))
+        (answer other : Answer) (text more : List ℕ)
+        → IsDue answer → IsDue other
+        → FitsAnswer command answer text → FitsAnswer command other more
+        → IsAnswer command (Some bytes) left answer text
+        → IsAnswer command (Some bytes) last other more → status_of answer ≡ status_of other }
 {}
 
 /// What an answer of a command that runs no script, or none that is whole, puts on the standard
-/// output is a front of what is due, whichever answer it is: so also where the input failed, or there
-/// was no memory. The same holds of the part of a trace that was written when the standard output
-/// failed.
+/// output is a front of what is due, whichever answer it is: so also where the input failed, or
+/// there was no memory. The same holds of the part of a trace that was written when the standard
+/// output failed.
 pub fn a_front_was_given()
-    ensures answered { (command : Command) (bytes : List ℕ) (left last : Option (List ℕ)) (answer due : Answer) (text whole : List ℕ)
-        → IsSettled command bytes → IsDue due → FitsAnswer command answer text → FitsAnswer command due whole
-        → IsAnswer command (Some bytes) left answer text → IsAnswer command (Some bytes) last due whole → BeginsWith whole text }
-    ensures written { (version : Version) (bytes : List ℕ) (last : Option (List ℕ)) (due : Answer) (text whole : List ℕ)
-        → IsDue due → IsAnswer (writing version) (Some bytes) last due whole → ShowsFront version bytes text → BeginsWith whole text }
+    ensures answered { (command : Command) (bytes : List ℕ) (left last : Option (List ℕ))
+        (answer due : Answer) (text whole : List ℕ)
+        → IsSettled command bytes → IsDue due
+        → FitsAnswer command answer text → FitsAnswer command due whole
+        → IsAnswer command (Some bytes) left answer text
+        → IsAnswer command (Some bytes) last due whole → BeginsWith whole text }
+    ensures written { (version : Version) (bytes : List ℕ) (last : Option (List ℕ)) (due : Answer)
+        (text whole : List ℕ)
+        → IsDue due → IsAnswer (writing version) (Some bytes) last due whole
+        → ShowsFront version bytes text → BeginsWith whole text }
 {}
