@@ -87,7 +87,7 @@ pub fn is_passed_whole(g: &Grant) -> bool
 
 /// The first or the second, where both are known: no jump depends on the first.
 #[inline(always)]
-fn either(a: bool, b: bool) -> bool
+pub fn either(a: bool, b: bool) -> bool
     ensures { result ≡ (a || b) }
 {
     a || b

@@ -2,7 +2,7 @@
 //! what that waits for, told without a rule: what can't come as long as it waits need not be asked
 //! for.
 
-ghost use Rattle.std.specs.Prelude.{◌≡◌, ◌≤◌, ◌||◌, ℕ, false, length};
+ghost use Rattle.std.specs.Prelude.{◌≡◌, ◌≤◌, ℕ, false, length};
 ghost use Rattle.std.specs.List.{list_any};
 ghost use Rattle.ace_model.specs.Grants.{ports_below};
 ghost use Rattle.ace_model.specs.Transactions.{is_ace};
@@ -11,7 +11,7 @@ ghost use Rattle.ace_lineck.specs.Waiting.{is_owing, is_owing_under, is_unsnoope
 
 use crate::LineCheck;
 use crate::grant::Grant;
-use crate::grant_rules::has_passed_under;
+use crate::grant_rules::{either, has_passed_under};
 use crate::memory_writes::{passed_kept, written_kept};
 use crate::replies::{can_take, is_shared_under, must_be_shared, reply_kept};
 use crate::stages::{Stage, stage_at};
@@ -26,14 +26,6 @@ fn is_owing(stage: Stage) -> bool
     ensures { result ≡ is_owing stage }
 {
     matches!(stage, Stage::Unanswered | Stage::Sending)
-}
-
-/// The first or the second, where both are known: no jump depends on the first.
-#[inline(always)]
-fn either(a: bool, b: bool) -> bool
-    ensures { result ≡ (a || b) }
-{
-    a || b
 }
 
 /// Some port was snooped, and its answer isn't whole. It is asked of all ports at once, as none
