@@ -44,21 +44,25 @@ impl<'a, S: Source> Reader<'a, S> {
     ///
     /// # Errors
     ///
-    /// `Malformed` exactly where the first malformed one of the two lines has this number and this reason; `ReadFault`
-    /// only where the source's count of faults rose in this call, and then what was taken from it holds no header;
-    /// `NoMemory` where there is none for a reader, which never comes while its buffer is a part of it. The error hands
-    /// the source back.
+    /// `Malformed` exactly where the first malformed one of the two lines has this number and this
+    /// reason; `ReadFault` only where the source's count of faults rose in this call, and then what
+    /// was taken from it holds no header; `NoMemory` where there is none for a reader, which never
+    /// comes while its buffer is a part of it. The error hands the source back.
     #[tactic(auto, using(crate::proofs::Readings::Progress::read_header_alone))]
     pub fn start(alloc: Global, source: &'a mut S) -> Result<Reader<'a, S>, StartErr<'a, S>>
-        ensures same_source { IfOk result (λ r. (source_of r).ghost_name ≡ source.entry.ghost_name) }
+        ensures same_source { IfOk result (λ r.
+            (source_of r).ghost_name ≡ source.entry.ghost_name) }
         ensures readable { IfOk result (λ r. IsReadableHeader (header_of r)) }
-        ensures header { IfOk result (λ r. Consumes (S.left source.entry.now) (unread S.left r) (header_text (header_of r))) }
+        ensures header { IfOk result (λ r. Consumes (S.left source.entry.now) (unread S.left r)
+            (header_text (header_of r))) }
         ensures steady { IfOk result (λ r. S.faults (source_of r).now ≡ S.faults source.entry.now) }
         ensures count { IfOk result (λ r. count_of r ≡ 0) }
-        ensures reads { IfOk result (λ r. IfSome (S.left source.entry.now) (λ bytes. HasRead S.left bytes [] r)) }
+        ensures reads { IfOk result (λ r. IfSome (S.left source.entry.now)
+            (λ bytes. HasRead S.left bytes [] r)) }
         ensures reads_on { IfOk result (λ r. last_answer r ≡ None) }
         ensures handed_back { IfErr result (λ e. e.source.ghost_name ≡ source.entry.ghost_name) }
-        ensures none { IfErr result (λ e. HasNoHeader e.error (S.left source.entry.now) (S.faults source.entry.now)
+        ensures none { IfErr result (λ e. HasNoHeader e.error (S.left source.entry.now)
+            (S.faults source.entry.now)
             (S.left e.source.now) (S.faults e.source.now)) }
     {
         let mut lines = match LineReader::start(alloc, source) {
@@ -88,29 +92,35 @@ impl<'a, S: Source> Reader<'a, S> {
         self.header
     }
 
-    /// The next event, or None at the end of the input after a whole line. An answer that is no event stays: each later
-    /// call gives it again, and takes nothing from the source.
+    /// The next event, or None at the end of the input after a whole line. An answer that is no
+    /// event stays: each later call gives it again, and takes nothing from the source.
     ///
     /// # Errors
     ///
-    /// `Malformed` exactly where a line stands next that is malformed, with its number and the least reason that applies:
-    /// the line of event n, from 1, is line n + 2. `TooManyEvents` exactly where 1,048,576 events were given and a byte
-    /// stands next. `ReadFault` only where the source's count of faults rose in the first call that answers so, and what
-    /// was taken by then and not given is less than a line.
+    /// `Malformed` exactly where a line stands next that is malformed, with its number and the
+    /// least reason that applies: the line of event n, from 1, is line n + 2. `TooManyEvents`
+    /// exactly where 1,048,576 events were given and a byte stands next. `ReadFault` only where the
+    /// source's count of faults rose in the first call that answers so, and what was taken by then
+    /// and not given is less than a line.
     #[tactic(auto, using(crate::proofs::Readings::Progress::reading_next))]
     pub fn next(&mut self) -> Result<Option<Event>, ReadErr>
         ensures same_source { (source_of self.new).ghost_name ≡ (source_of self.old).ghost_name }
         ensures same_header { header_of self.new ≡ header_of self.old }
-        ensures next { last_answer self.old ≡ None → StandsNext (header_of self.old).version result (count_of self.old) (unread S.left self.old)
+        ensures next { last_answer self.old ≡ None
+            → StandsNext (header_of self.old).version result (count_of self.old)
+            (unread S.left self.old)
             (unread S.left self.new) (S.left (source_of self.new).now) }
         ensures reads { last_answer self.old ≡ None → (bytes : List ℕ) (events : List Event)
-            → HasRead S.left bytes events self.old → IsReading S.left bytes events self.old self.new result }
+            → HasRead S.left bytes events self.old
+            → IsReading S.left bytes events self.old self.new result }
         ensures count { count_of self.new ≡ count_after (count_of self.old) result }
         ensures last { last_answer self.new ≡ lasting result }
-        ensures again { (answer : Result (Option Event) ReadErr) → last_answer self.old ≡ Some answer
+        ensures again { (answer : Result (Option Event) ReadErr)
+            → last_answer self.old ≡ Some answer
             → (result ≡ answer) × (self.new ≡ self.old) }
         ensures cause { last_answer self.old ≡ None
-            → HasFaultCause result (S.faults (source_of self.old).now) (S.faults (source_of self.new).now) }
+            → HasFaultCause result (S.faults (source_of self.old).now)
+            (S.faults (source_of self.new).now) }
     {
         let mut event = NO_EVENT;
         match self.next_into(&mut event) {
@@ -120,7 +130,8 @@ impl<'a, S: Source> Reader<'a, S> {
         }
     }
 
-    /// The same, with the event put in its place, which spares a copy of it. Where there is none, the place stays.
+    /// The same, with the event put in its place, which spares a copy of it. Where there is none,
+    /// the place stays.
     ///
     /// # Errors
     ///
@@ -128,18 +139,24 @@ impl<'a, S: Source> Reader<'a, S> {
     pub fn next_into(&mut self, event: &mut Event) -> Result<Option<()>, ReadErr>
         ensures same_source { (source_of self.new).ghost_name ≡ (source_of self.old).ghost_name }
         ensures same_header { header_of self.new ≡ header_of self.old }
-        ensures next { last_answer self.old ≡ None → StandsNext (header_of self.old).version (with_event event.new result) (count_of self.old)
+        ensures next { last_answer self.old ≡ None
+            → StandsNext (header_of self.old).version (with_event event.new result)
+            (count_of self.old)
             (unread S.left self.old) (unread S.left self.new) (S.left (source_of self.new).now) }
         ensures reads { last_answer self.old ≡ None → (bytes : List ℕ) (events : List Event)
-            → HasRead S.left bytes events self.old → IsReading S.left bytes events self.old self.new (with_event event.new result) }
-        ensures count { count_of self.new ≡ count_after (count_of self.old) (with_event event.new result) }
+            → HasRead S.left bytes events self.old
+            → IsReading S.left bytes events self.old self.new (with_event event.new result) }
+        ensures count { count_of self.new ≡ count_after (count_of self.old)
+            (with_event event.new result) }
         ensures last { last_answer self.new ≡ lasting (with_event event.new result) }
-        ensures again { (answer : Result (Option Event) ReadErr) → last_answer self.old ≡ Some answer
+        ensures again { (answer : Result (Option Event) ReadErr)
+            → last_answer self.old ≡ Some answer
             → (with_event event.new result ≡ answer) × (self.new ≡ self.old) }
         ensures stays { IfOk result (λ next. IfNone next (event.new ≡ event.old)) }
         ensures stays_behind { OnErr result (event.new ≡ event.old) }
         ensures cause { last_answer self.old ≡ None
-            → HasFaultCause (with_event event.new result) (S.faults (source_of self.old).now) (S.faults (source_of self.new).now) }
+            → HasFaultCause (with_event event.new result) (S.faults (source_of self.old).now)
+            (S.faults (source_of self.new).now) }
     {
         if self.gives(event) {
             return Ok(Some(()));
@@ -151,17 +168,20 @@ impl<'a, S: Source> Reader<'a, S> {
         }
     }
 
-    /// Lets a taker have the next event at once, and says whether it took it. Where it didn't, nothing has changed, and `gives` reads
-    /// the event: the taker doesn't take each event, or the line isn't held whole, or there is none, or the trace is of version 2.
+    /// Lets a taker have the next event at once, and says whether it took it. Where it didn't,
+    /// nothing has changed, and `gives` reads the event: the taker doesn't take each event, or the
+    /// line isn't held whole, or there is none, or the trace is of version 2.
     #[inline(always)]
     pub fn hands_over<T: Taker>(&mut self, taker: &mut T) -> bool
         ensures same_source { (source_of self.new).ghost_name ≡ (source_of self.old).ghost_name }
         ensures source { (source_of self.new).now ≡ (source_of self.old).now }
         ensures same_header { header_of self.new ≡ header_of self.old }
-        ensures reads_on { result ≡ true → (last_answer self.old ≡ None) × (last_answer self.new ≡ None) }
+        ensures reads_on { result ≡ true → (last_answer self.old ≡ None)
+            × (last_answer self.new ≡ None) }
         ensures room { result ≡ true → count_of self.old < most_events }
         ensures count { result ≡ true → count_of self.new ≡ count_of self.old + 1 }
-        ensures taken { result ≡ true → HandsOver (header_of self.old).version (λ event. T.took taker.old event taker.new)
+        ensures taken { result ≡ true → HandsOver (header_of self.old).version
+            (λ event. T.took taker.old event taker.new)
             (unread S.left self.old) (unread S.left self.new) }
         ensures stays { result ≡ false → (self.new ≡ self.old) × (taker.new ≡ taker.old) }
     {
@@ -171,8 +191,7 @@ impl<'a, S: Source> Reader<'a, S> {
         {
             return false;
         }
-        let mut event = NO_EVENT;
-        let Some(count) = event_in_front(self.lines.front(), &mut event, taker) else {
+        let Some(count) = event_in_front(self.lines.front(), taker) else {
             return false;
         };
         self.lines.pass(count + 1);
@@ -180,8 +199,9 @@ impl<'a, S: Source> Reader<'a, S> {
         true
     }
 
-    /// Lets a taker have the next events at once, one after another, as long as their lines are held whole and it takes them. Where the
-    /// reader doesn't read on, or the trace is of version 2, it has none.
+    /// Lets a taker have the next events at once, one after another, as long as their lines are
+    /// held whole and it takes them. Where the reader doesn't read on, or the trace is of version
+    /// 2, it has none.
     #[inline(always)]
     pub fn hands_all_over<T: Taker>(&mut self, taker: &mut T)
         ensures same_source { (source_of self.new).ghost_name ≡ (source_of self.old).ghost_name }
@@ -190,9 +210,11 @@ impl<'a, S: Source> Reader<'a, S> {
         ensures same_answer { last_answer self.new ≡ last_answer self.old }
         ensures further { count_of self.old ≤ count_of self.new }
         ensures few { count_of self.old ≤ most_events → count_of self.new ≤ most_events }
-        ensures taken { HandsAllOver (header_of self.old).version T.took (count_of self.new - count_of self.old) taker.old taker.new
+        ensures taken { HandsAllOver (header_of self.old).version T.took
+            (count_of self.new - count_of self.old) taker.old taker.new
             (unread S.left self.old) (unread S.left self.new) }
-        ensures stays { is_some (last_answer self.old) ≡ true → (self.new ≡ self.old) × (taker.new ≡ taker.old) }
+        ensures stays { is_some (last_answer self.old) ≡ true → (self.new ≡ self.old)
+            × (taker.new ≡ taker.old) }
     {
         if self.header.version != 1
             || self.count >= MOST_EVENTS
@@ -205,24 +227,32 @@ impl<'a, S: Source> Reader<'a, S> {
         self.count += handed.events;
     }
 
-    /// As `next_into`, but it says alone whether there was an event. Where there was none, the reader keeps the answer, which `next`
-    /// and `next_into` give from then on.
+    /// As `next_into`, but it says alone whether there was an event. Where there was none, the
+    /// reader keeps the answer, which `next` and `next_into` give from then on.
     #[tactic(auto, using(crate::proofs::Readings::Progress::reading_next))]
     #[inline(never)]
     pub fn gives(&mut self, event: &mut Event) -> bool
         ensures same_source { (source_of self.new).ghost_name ≡ (source_of self.old).ghost_name }
         ensures same_header { header_of self.new ≡ header_of self.old }
-        ensures next { last_answer self.old ≡ None → StandsNext (header_of self.old).version (given result event.new (last_answer self.new))
-            (count_of self.old) (unread S.left self.old) (unread S.left self.new) (S.left (source_of self.new).now) }
+        ensures next { last_answer self.old ≡ None
+            → StandsNext (header_of self.old).version (given result event.new
+            (last_answer self.new))
+            (count_of self.old) (unread S.left self.old) (unread S.left self.new) (S.left
+            (source_of self.new).now) }
         ensures reads { last_answer self.old ≡ None → (bytes : List ℕ) (events : List Event)
             → HasRead S.left bytes events self.old
-            → IsReading S.left bytes events self.old self.new (given result event.new (last_answer self.new)) }
-        ensures count { count_of self.new ≡ count_after (count_of self.old) (given result event.new (last_answer self.new)) }
-        ensures last { last_answer self.new ≡ lasting (given result event.new (last_answer self.new)) }
-        ensures again { (answer : Result (Option Event) ReadErr) → last_answer self.old ≡ Some answer
+            → IsReading S.left bytes events self.old self.new (given result event.new
+            (last_answer self.new)) }
+        ensures count { count_of self.new ≡ count_after (count_of self.old) (given result event.new
+            (last_answer self.new)) }
+        ensures last { last_answer self.new ≡ lasting (given result event.new
+            (last_answer self.new)) }
+        ensures again { (answer : Result (Option Event) ReadErr)
+            → last_answer self.old ≡ Some answer
             → (result ≡ false) × (self.new ≡ self.old) }
         ensures stays { result ≡ false → event.new ≡ event.old }
-        ensures cause { last_answer self.old ≡ None → HasFaultCause (given result event.new (last_answer self.new))
+        ensures cause { last_answer self.old ≡ None
+            → HasFaultCause (given result event.new (last_answer self.new))
             (S.faults (source_of self.old).now) (S.faults (source_of self.new).now) }
     {
         if self.hands_over(event) {

@@ -8,14 +8,15 @@ events-init g c = ([], omega arith, none_stood _ _ _)
 
 pub events-preserved : goal.events-preserved
 events-preserved g c =
-    let before = c.events.invariant in (
-      _ ∷ before.0,
+    let before = c.events.invariant in
+    let taken = c.in-Some.ensures.taken in (
+      taken.0 ∷ before.0,
       omega (arith, before.1, c.events-test.true),
-      one_more_stood _ _ _ before.0 _ _ _ _ _ before.2 c.in-Some.ensures.event c.in-Some.ensures.took,
+      one_more_stood _ _ _ before.0 _ _ _ _ _ before.2 taken.1 taken.2,
     )
 
 pub overflow_add-rest : goal.overflow_add-rest
-overflow_add-rest g c = omega (arith, c.well_formed.0.0, rest_within _ _ _ _ _ _ c.events.invariant.2, c.in-Some.ensures.event.within)
+overflow_add-rest g c = omega (arith, c.well_formed.0.0, rest_within _ _ _ _ _ _ c.events.invariant.2, c.in-Some.ensures.taken.1.within)
 
 pub overflow_sub-result : goal.overflow_sub-result
 overflow_sub-result g c = rest_within _ _ _ _ _ _ c.events.invariant.2
