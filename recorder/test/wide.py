@@ -14,7 +14,7 @@ import widen
 
 HERE = os.path.dirname(os.path.abspath(__file__))
 RECORDER = os.path.dirname(HERE)
-PORTS = 'AAAL'
+PORTS = 'AAL'  # of the benches; a larger test has more
 CONFIGS = {config.name: config for config in (
     widen.Config('plain', 48, 8, 128, leave=1),
     widen.Config('narrow', 64, 16, 32, 64),
@@ -40,13 +40,13 @@ class Verilator:
         self.words = words
 
     def build(self):
-        name = f'wide_{self.config.name}'
+        name = f'wide_{self.config.name}_{PORTS}'
         words = ['--top', 'replay_wide', '-O3', *self.words, '-Wno-WIDTH', f'-DPORT_COUNT={len(PORTS)}', f'-DLITE_MASK={lite_mask(PORTS)}']
         words += [*self.config.defines(), f'{HERE}/replay_wide.sv']
         return subprocess.run([f'{RECORDER}/build', name, *words], check=False).returncode == 0
 
     def command(self):
-        name = f'wide_{self.config.name}'
+        name = f'wide_{self.config.name}_{PORTS}'
         return [f'{RECORDER}/out/{name}/{name}']
 
 
@@ -116,7 +116,7 @@ def has_pins(letters, word):
 
 def fits(trace):
     letters = trace.split('\n')[1][6:]
-    if len(letters) > len(PORTS) or letters[3:] not in ('', 'L'):
+    if len(letters) > len(PORTS) or letters[len(PORTS) - 1:] not in ('', 'L'):
         return False
     return all(has_pins(letters, line.split(' ')) for line in trace.rstrip('\n').split('\n')[2:])
 
