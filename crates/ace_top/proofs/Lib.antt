@@ -1,5 +1,4 @@
 pub mod AcceptedEnd
-pub mod CopyLemmas
 pub mod ErrorLemmas
 pub mod Followed
 pub mod Following
@@ -18,8 +17,7 @@ pub mod ReaderEnds
 pub mod ReportLemmas
 pub mod RunLemmas
 pub mod RunTexts
-pub mod ShowLemmas
 pub mod Sound
 pub mod Stops
 pub mod WordsAnswered
-pub mod Written
+pub mod WrittenLemmas

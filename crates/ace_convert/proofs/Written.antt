@@ -1,15 +1,17 @@
 -- What may stand in a trace may stand in the trace that is written of it.
-use Rattle.std.proofs.Common.{◌≡◌, ◌≤◌, ◌⊎◌, ℕ, refl, ap, ◌∙◌, inl, inr, arith}
+use Rattle.std.proofs.Common.{◌≡◌, ◌≤◌, ◌⊎◌, ℕ, refl, sym, inl, inr, arith}
 use Rattle.ace_event.specs.declared.header.Header.{Header}
 use Rattle.ace_event.specs.declared.event.Event.{Event}
 use Rattle.ace_event.specs.declared.event.Event.TheVariants.{Ar, R, Rk, Aw, W, B, Wk, Ac, Cr, Cd, G, M, S, L, D, Op, Mem}
 use Rattle.ace_event.specs.Ports.{IsHeader, most_letters}
 use Rattle.ace_event.specs.Range.{InRange, IsPort}
-use Rattle.ace_grammar.specs.Reading.{IsReadableHeader}
-use Rattle.ace_top.specs.declared.show.Version.{Version}
-use Rattle.ace_top.specs.declared.show.Version.TheVariants.{AsRead, Two}
-use Rattle.ace_top.specs.Show.{header_written, in_version_2}
-use Rattle.ace_top.specs.Versions.{Allows}
+use Rattle.ace_convert.specs.declared.conversion.Conversion.{Conversion}
+use Rattle.ace_convert.specs.declared.conversion.Conversion.TheVariants.{Show, Migrate, Pack, Unpack}
+use Rattle.ace_convert.specs.Spelling.{header_written, in_version_2}
+
+-- What a trace of the one version may have, one of the other may have too.
+abbrev pub Allows : ℕ → ℕ → Type 0
+Allows from to = (event : Event) → InRange from event → InRange to event
 
 -- a port of one digit is one of two
 wide : (port : ℕ) → IsPort 1 port → IsPort 2 port
@@ -54,14 +56,17 @@ readable_later header h =
       no_other = h.no_other;
     }
 
--- of the header that was read
-pub same_header : (version : Version) (header read written : Header) → read ≡ header → written ≡ header_written version read → written ≡ header_written version header
-same_header version header read written is by = by ∙ ap (header_written version) is
+-- the header that is written is right
+pub written_right : (conversion : Conversion) (header read written : Header) → read ≡ header → written ≡ header_written conversion read → IsHeader header → IsHeader written
+written_right Show header read written same is h = rw is (rw same h)
+written_right Migrate header read written same is h = rw is (rw same (readable_later header h))
+written_right Pack header read written same is h = rw is (rw same h)
+written_right Unpack header read written same is h = rw is (rw same h)
 
-pub written_readable : (version : Version) (header written : Header) → written ≡ header_written version header → IsReadableHeader header → IsReadableHeader written
-written_readable AsRead header written is h = rw is h
-written_readable Two header written is h = rw is (readable_later header h)
-
-pub written_allowed : (version : Version) (header written : Header) → written ≡ header_written version header → IsReadableHeader header → Allows header.version written.version
-written_allowed AsRead header written is h = rw is (λ event r. r)
-written_allowed Two header written is h = rw is (allows_later header.version h.version)
+-- and the trace with it may have what was read
+pub written_allows : (conversion : Conversion) (header : Header) (from to : ℕ) (event : Event) → from ≡ header.version → to ≡ (header_written conversion header).version → IsHeader header
+    → InRange from event → InRange to event
+written_allows Show header from to event same is h r = rw is (rw (sym same) r)
+written_allows Migrate header from to event same is h r = rw is (allows_later header.version h.version event (rw (sym same) r))
+written_allows Pack header from to event same is h r = rw is (rw (sym same) r)
+written_allows Unpack header from to event same is h r = rw is (rw (sym same) r)
