@@ -9,7 +9,7 @@ exchange-requires c = (c.requires.board.0, is_held _ _ _ _ _ c.requires.holding)
 pub call_or_full-answer-requires-clause-port : goal.call_or_full-answer-requires-clause-port
 call_or_full-answer-requires-clause-port c =
     subst (λ (r : Running). c.args.port < r.setting.ports)
-        (sym (held-state _ _ _ _ _ _ _ c.requires.holding c.exchange.ensures.2 c.in-Some.is)) c.requires.board.1
+    (sym (held-state _ _ _ _ _ _ _ c.requires.holding c.exchange.ensures.2 c.in-Some.is)) c.requires.board.1
 
 pub returns-clause-answer : goal.returns-clause-answer
 returns-clause-answer c =
