@@ -4,6 +4,7 @@ pub mod Followed
 pub mod Following
 pub mod FrontGiven
 pub mod GenerateLemmas
+pub mod GeneratedRight
 pub mod Handed
 pub mod Hyphens
 pub mod Numbers

@@ -2,7 +2,6 @@
 use Rattle.std.proofs.Common.{◌≡◌, ◌≤◌, ℕ, List, [], ◌∷◌, ◌++◌, Option, None, Some, length, reverse, refl, sym, ap, subst, ◌∙◌, inl, inr, Bool, true, false, ◌+◌, arith}
 use Rattle.ace_event.specs.declared.header.Header.{Header}
 use Rattle.ace_event.specs.declared.event.Event.{Event}
-use Rattle.ace_event.specs.Text.{trace_text}
 use Rattle.ace_grammar.specs.declared.reason.Reason.{Reason}
 use Rattle.ace_grammar.specs.Reading.{Ending, Ends, Whole, Full, Bad, Reads, HasBadHeader, most_events}
 use Rattle.ace_grammar.proofs.Readings.EveryReading.{some_reading}
@@ -13,7 +12,7 @@ use Rattle.ace_model.specs.Accepted.{least_broken}
 use Rattle.ace_model.specs.Trace.{newer}
 use Rattle.ace_check.specs.Promises.{goes_over}
 use Rattle.ace_top.specs.declared.answer.Answer.{Answer}
-use Rattle.ace_top.specs.declared.answer.Answer.TheVariants.{Accepted, Refused, Shown, Reported, Generated, Malformed, ReadFault, LimitEvents, LimitLines, NoMemory}
+use Rattle.ace_top.specs.declared.answer.Answer.TheVariants.{Accepted, Refused, Reported, Generated, Malformed, ReadFault, LimitEvents, LimitLines, NoMemory}
 use Rattle.ace_convert.specs.declared.conversion.Conversion.{Conversion}
 use Rattle.ace_convert.specs.declared.end.TraceEnd.{TraceEnd}
 use Rattle.ace_convert.specs.declared.end.TraceEnd.TheVariants as ends
@@ -25,11 +24,11 @@ use Rattle.ace_top.specs.ErrorAnswer.{end_answer}
 use Rattle.ace_top.specs.Written.{IsWritten}
 use Rattle.ace_top.specs.declared.words.Command.{Command}
 use Rattle.ace_top.specs.declared.words.Command.TheVariants.{Check, Report, Convert, Run, Gen, Trial}
-use Rattle.ace_top.specs.Answer.{IsAnswer, FitsAnswer, IsDue, IsSettled}
+use Rattle.ace_top.specs.Answer.{CanBeInput, IsAnswer, FitsAnswer, IsDue, IsSettled}
 use Rattle.ace_top.specs.Generate.{IsGenerated, script_of}
 use Rattle.ace_top.specs.Report.{IsReported}
 use Rattle.ace_top.specs.Texts.{out_text_of}
-use Rattle.ace_top.proofs.OneScript.{one_unread, some_unread}
+use Rattle.ace_top.proofs.OneScript.{one_unread, some_ran, some_tried}
 use Rattle.ace_top.specs.Verdict.{IsVerdict, BeginsStopped, Stop, Breaks, GoesOver, stop_of, first_stop, first_stop_after}
 
 -- ---- verdicts
@@ -255,17 +254,17 @@ fits_written conversion ReadFault text d = absurd d
 fits_written conversion answer text d = tt
 
 -- an answer is due
-pub some_answer : (command : Command) (bytes : List ℕ) (left : Option (List ℕ)) → IsSettled command bytes
+pub some_answer : (command : Command) (bytes : List ℕ) (left : Option (List ℕ)) → CanBeInput command bytes
     → (answer : Answer) × (text : List ℕ) × IsDue answer × FitsAnswer command answer text × IsAnswer command (Some bytes) left answer text
-some_answer Check bytes left settled =
+some_answer Check bytes left can =
     let v = some_verdict bytes in
     (v.0, out_text_of v.0, v.1, refl, v.2)
-some_answer Report bytes left settled =
+some_answer Report bytes left can =
     let v = some_verdict bytes in
     some_told bytes v.0 v.1 v.2
-some_answer (Convert conversion) bytes left settled =
-    let w = some_written conversion bytes left settled in
+some_answer (Convert conversion) bytes left can =
+    let w = some_written conversion bytes left can in
     (w.0, w.1, w.2, fits_written conversion w.0 w.1 w.2, w.3)
-some_answer (Gen number) bytes left settled = (Generated, script_of number, tt, tt, refl)
-some_answer Run bytes left settled = some_unread bytes settled
-some_answer (Trial number) bytes left settled = absurd settled
+some_answer (Gen number) bytes left can = (Generated, script_of number, tt, tt, refl)
+some_answer Run bytes left can = some_ran bytes
+some_answer (Trial number) bytes left can = some_tried number

@@ -11,6 +11,7 @@ use Rattle.ace_script.specs.Errors.{HasNoPlan}
 use Rattle.ace_script.specs.Generated.{generated}
 use Rattle.ace_script.specs.Grammar.{IsScript}
 use Rattle.ace_script.specs.Reading.{Reads, Whole}
+use Rattle.ace_whole_runs.specs.Runs.{IsRunOf}
 use Rattle.ace_top.specs.declared.answer.Answer.{Answer}
 use Rattle.ace_top.specs.declared.answer.Answer.TheVariants.{NoMemory, Ran, Tried}
 use Rattle.ace_top.specs.declared.words.Command.TheVariants.{Run, Trial}
@@ -19,7 +20,7 @@ use Rattle.ace_top.specs.ErrorAnswer.{plan_answer}
 use Rattle.ace_convert.specs.Output.{AppendsPart}
 use Rattle.ace_top.specs.Output.{AppendsParts}
 use Rattle.ace_top.specs.Progress.{HasReadCause}
-use Rattle.ace_top.specs.Run.{IsRan, IsRunOf}
+use Rattle.ace_top.specs.Run.{IsRan}
 use Rattle.ace_top.specs.Texts.{status_of, out_text_of, notes_text_of}
 use Rattle.ace_top.proofs.Parts.{both_nothing}
 use Rattle.ace_top.proofs.WrittenLemmas.{alone}

@@ -1,5 +1,5 @@
 -- What the commands that write a trace of a trace answer.
-use Rattle.std.proofs.Common.{◌≡◌, ◌≢◌, ◌++◌, ℕ, List, [], Option, None, Some, Result, Ok, Err, IfSome, refl, sym, ap, subst, ◌∙◌, append-nil, inl, inr, codes, arith}
+use Rattle.std.proofs.Common.{◌≡◌, ◌++◌, ℕ, List, [], Option, None, Some, Ok, Err, IfSome, refl, sym, ap, subst, ◌∙◌, append-nil, inl, inr, codes, arith}
 use Rattle.std.specs.Io.KnownBytes.{Appends}
 use Rattle.std.proofs.KnownBytes.{Appends-trans}
 use Rattle.ace_io.specs.declared.outside.Failed.{Failed}
@@ -11,14 +11,12 @@ use Rattle.ace_convert.specs.Converted.{IsConverted, HasConverted}
 use Rattle.ace_convert.specs.Ends as convert
 use Rattle.ace_convert.specs.Output.{AppendsPart}
 use Rattle.ace_top.specs.declared.answer.Answer.{Answer}
-use Rattle.ace_top.specs.declared.answer.Answer.TheVariants.{ReadFault}
 use Rattle.ace_top.specs.declared.words.Command.TheVariants.{Convert}
 use Rattle.ace_top.specs.Answer.{IsAnswer, Answers, FitsAnswer, BreaksOff}
 use Rattle.ace_top.specs.ErrorAnswer.{end_answer}
 use Rattle.ace_top.specs.Output.{AppendsParts}
 use Rattle.ace_top.specs.Progress.{HasReadCause}
 use Rattle.ace_top.specs.Texts.{status_of, out_text_of, notes_text_of}
-use Rattle.ace_top.specs.Written.{IsWritten}
 use Rattle.ace_top.proofs.Parts.{both_nothing}
 
 -- behind the trace there is no further text for the standard output

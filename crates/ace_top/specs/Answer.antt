@@ -54,13 +54,17 @@ IsDue ReadFault = ⊥
 IsDue NoMemory = ⊥
 IsDue answer = ⊤
 
+-- what can be the input of the command: numbers that are read as a binary trace are bytes
+abbrev pub CanBeInput : Command → List ℕ → Type 0
+CanBeInput (Convert conversion) bytes = CanBeRead (form_read conversion) bytes
+CanBeInput command bytes = ⊤
+
 -- the words and the bytes of the input alone tell what the command writes: it runs no script, or
--- the input isn't a whole one, and numbers that are read as a binary trace are bytes
+-- the input isn't a whole one
 abbrev pub IsSettled : Command → List ℕ → Type 0
 IsSettled Run bytes = (plan : Plan) → Reads bytes plan Whole → ⊥
 IsSettled (Trial number) bytes = ⊥
-IsSettled (Convert conversion) bytes = CanBeRead (form_read conversion) bytes
-IsSettled command bytes = ⊤
+IsSettled command bytes = CanBeInput command bytes
 
 -- The status is that of an answer of the command, and its texts were appended to the two outputs, whether or not the input
 -- tells its bytes.

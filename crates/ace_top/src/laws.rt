@@ -9,16 +9,16 @@ ghost use Rattle.ace_convert.specs.Converted.{ConvertsFront};
 ghost use Rattle.ace_top.specs.declared.answer.Answer.TheVariants.{Shown};
 ghost use Rattle.ace_top.specs.declared.words.Command.{Command};
 ghost use Rattle.ace_top.specs.declared.words.Command.TheVariants.{Convert};
-ghost use Rattle.ace_top.specs.Answer.{FitsAnswer, IsAnswer, IsDue, IsSettled};
+ghost use Rattle.ace_top.specs.Answer.{CanBeInput, FitsAnswer, IsAnswer, IsDue, IsSettled};
 ghost use Rattle.ace_top.specs.Texts.{status_of};
 
-/// To each input one answer of a command is due, with one text for the standard output; of a
-/// command that runs a script so where the input isn't a whole one, else answers of one status. So
-/// a status of `ace` but those of faults and of want of memory comes exactly where the answer that
-/// is due has it.
+/// To each input an answer of a command is due: where a whole script is run too, as each right plan
+/// has a run. It is one, with one text for the standard output; of a command that runs a script so
+/// where the input isn't a whole one, else answers of one status. So a status of `ace` but those
+/// of faults and of want of memory comes exactly where the answer that is due has it.
 pub fn one_answer_is_due()
     ensures some { (command : Command) (bytes : List ℕ) (left : Option (List ℕ))
-        → IsSettled command bytes
+        → CanBeInput command bytes
         → (answer : Answer) × (text : List ℕ) × IsDue answer × FitsAnswer command answer text
         × IsAnswer command (Some bytes) left answer text }
     ensures one { (command : Command) (bytes : List ℕ) (left last : Option (List ℕ))
