@@ -35,7 +35,8 @@ use Rattle.ace_master_state.proofs.SyncMoves.{completed-elsewhere, unanswered-el
 use Rattle.ace_master_state.proofs.SyncsAnswered.{answered-stay, awaits-stays, completes-elsewhere, syncs-stay}
 
 module _ (plan : Plan) (past : Trace) (p : ℕ) (e : Event) (legal : IsLegal plan (e ∷ past)) (apart : is_at_port p e ≡ false) where
-  pub lines-elsewhere : (s : Cached) → FitsFields e → (port_of e ≡ Some p → HasLowId e) → CachedStands plan.header plan.ways past p s → CachedStands plan.header plan.ways (e ∷ past) p s
+  pub lines-elsewhere : (s : Cached) → FitsFields e → (port_of e ≡ Some p → HasLowId e)
+      → CachedStands plan.header plan.ways past p s → CachedStands plan.header plan.ways (e ∷ past) p s
   lines-elsewhere s fits low k =
       let h = plan.header in
       record {
@@ -96,7 +97,8 @@ monitored-held h (e ∷ past) p l = twice (is_set_by e p l (is_monitored h past 
     twice true false = refl
     twice false b = refl
 
-pub monitor-stays : (h : Header) (past : Trace) (p : ℕ) (e : Event) → IsAccepted h (e ∷ past) → is_at_port p e ≡ false → (s : Monitor) → MonitorStands h past p s → MonitorStands h (e ∷ past) p s
+pub monitor-stays : (h : Header) (past : Trace) (p : ℕ) (e : Event) → IsAccepted h (e ∷ past) → is_at_port p e ≡ false
+    → (s : Monitor) → MonitorStands h past p s → MonitorStands h (e ∷ past) p s
 monitor-stays h past p e a apart s k = record { port = k.port; set = λ l. same l ∙ k.set l }
   where
     same : (l : ℕ) → is_monitored h (e ∷ past) p l ≡ is_monitored h past p l
@@ -106,8 +108,8 @@ monitor-stays h past p e a apart s k = record { port = k.port; set = λ l. same 
         ∙ monitored-held h past p l
 
 -- all that
-pub rest-stays : (plan : Plan) (past : Trace) (p : ℕ) (e : Event) → IsLegal plan (e ∷ past) → is_at_port p e ≡ false → FitsFields e → (port_of e ≡ Some p → HasLowId e)
-    → (s : Kept) → KeptStands plan past p s → RestStands plan (e ∷ past) p s
+pub rest-stays : (plan : Plan) (past : Trace) (p : ℕ) (e : Event) → IsLegal plan (e ∷ past) → is_at_port p e ≡ false → FitsFields e
+    → (port_of e ≡ Some p → HasLowId e) → (s : Kept) → KeptStands plan past p s → RestStands plan (e ∷ past) p s
 rest-stays plan past p e legal apart fits low s k = record {
   lines = lines-elsewhere plan past p e legal apart s.lines fits low k.lines;
   monitor = monitor-stays plan.header past p e legal.accepted apart s.monitor k.monitor;

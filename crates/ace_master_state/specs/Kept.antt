@@ -13,7 +13,8 @@ use Rattle.ace_master_state.specs.Monitor.{MonitorStands}
 use Rattle.ace_master_state.specs.Segment.{SegmentStands}
 use Rattle.ace_master_state.specs.Syncs.{SyncsStand}
 
--- What is kept beside the port's transactions and snoops says what there is to say of the port after the trace.
+-- What is kept beside the port's transactions and snoops says what there is to say of the port
+-- after the trace.
 pub record RestStands (plan : Plan) (past : Trace) (p : ℕ) (s : Kept) : Type 0 where
   pub lines : CachedStands plan.header plan.ways past p s.lines
   pub monitor : MonitorStands plan.header past p s.monitor
