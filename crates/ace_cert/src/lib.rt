@@ -5,6 +5,9 @@
 mod cert;
 pub mod laws;
 mod lists;
+pub mod rows;
+#[cfg(test)]
+mod tests;
 
 pub use cert::{Cert, LineOrder, ReadPlace};
 pub use lists::{EventList, LineList, PlaceList};
