@@ -1,19 +1,18 @@
 -- The tests of a certificate pass exactly where it is one.
-use Rattle.std.proofs.Common.{◌≡◌, ◌⊎◌, inl, inr, ℕ, ◌+◌, ◌-◌, ◌<◌, ◌≤◌, Bool, true, false, ◌&&◌, ◌||◌, nat_eq, nat_lt, List, [], ◌∷◌, length, map, reverse, slice_get, Option, Some, None, option_map, unwrap_or, refl, sym, ap, subst, ◌∙◌, arith}
+use Rattle.std.proofs.Common.{◌≡◌, inl, inr, ℕ, ◌+◌, ◌-◌, ◌<◌, ◌≤◌, true, ◌&&◌, nat_eq, nat_lt, List, [], ◌∷◌, length, map, reverse, slice_get, Option, Some, None, option_map, unwrap_or, refl, sym, ap, subst, ◌∙◌, arith}
 use Rattle.std.specs.Prelude.{find}
-use Rattle.std.specs.List.{All, Contains, list_any}
+use Rattle.std.specs.List.{Contains}
 use Rattle.std.specs.List.Sorted.{IsStrictlyIncreasing}
 use Rattle.std.proofs.lemmas.Bool.{and_parts, and_from, cases_Bool, eqb-true, eq-eqb, ne_eqb, or_cases, or_left, or_right}
 use Rattle.std.proofs.lemmas.List.Folds.{Any-from_list_any, list_any-from_Any}
 use Rattle.ace_model.specs.declared.transactions.Transaction.{Transaction}
-use Rattle.ace_model.proofs.Terms.{Event, L, R, Read, Trace, at_point, is_some_and, implies, is_known, is_line, is_on, issued, value_of, word_of, IsLoad, IsBeat, HasBeat, IsGrantOf, IsReadBy}
+use Rattle.ace_model.proofs.Terms.{Event, Trace, is_some_and, implies, is_known, is_line, is_on, issued, HasBeat, IsReadBy}
 use Rattle.ace_model.specs.ReadsFollow.{FollowsAt}
-use Rattle.ace_model.proofs.General.Options.{Some-injective, is_some_and-is}
+use Rattle.ace_model.proofs.General.Options.{is_some_and-is}
 use Rattle.ace_model.proofs.General.Booleans.{implies-at}
 use Rattle.ace_model.proofs.General.Lists.{slice_get-all}
 use Rattle.std.proofs.lemmas.Option.{get_or_from_slice_get, slice_get_within}
 use Rattle.ace_model.proofs.Outstanding.Issued.{find-some}
-use Rattle.ace_model.proofs.Trace.Places.{beat-below}
 use Rattle.ace_cert.specs.declared.cert.Cert.{Cert}
 use Rattle.ace_cert.specs.declared.cert.LineOrder.{LineOrder}
 use Rattle.ace_cert.specs.declared.cert.ReadPlace.{ReadPlace}

@@ -1,14 +1,14 @@
 -- The first grant of the newest read of a name is a grant of that read, and no grant of it comes before.
-use Rattle.std.proofs.Common.{◌≡◌, ◌⊎◌, inl, inr, ℕ, ◌+◌, ◌<◌, ◌≤◌, Bool, true, false, ◌&&◌, nat_eq, [], ◌∷◌, length, Option, Some, None, unwrap_or, refl, sym, ap, subst, ◌∙◌, arith}
+use Rattle.std.proofs.Common.{◌≡◌, ◌⊎◌, inl, inr, ℕ, ◌+◌, ◌<◌, ◌≤◌, true, false, ◌&&◌, nat_eq, [], ◌∷◌, length, Option, Some, None, unwrap_or, refl, sym, ap, subst, ◌∙◌, arith}
 use Rattle.std.proofs.lemmas.Bool.{and_parts, and_from, cases_Bool, eqb-true, eq-eqb}
 use Rattle.ace_model.specs.declared.transactions.Transaction.{Transaction}
-use Rattle.ace_model.proofs.Terms.{Event, Ar, Aw, R, G, Read, Write, Trace, has_name, is_named, is_read, issued, at_point, event_at, transaction_of, IsGrantOf}
+use Rattle.ace_model.proofs.Terms.{Event, Ar, Aw, G, Read, Write, Trace, has_name, is_named, is_read, issued, event_at, transaction_of, IsGrantOf}
 use Rattle.ace_model.proofs.General.Options.{Some-injective}
 use Rattle.ace_model.proofs.Trace.Issued.{issued-place, transaction_of-name}
 use Rattle.ace_model.proofs.Trace.Looks.{has_name-is, is_read-is, newest_named-cases}
 use Rattle.ace_model.proofs.Trace.Outstanding.{named_read}
 use Rattle.ace_model.proofs.Trace.Growth.{at_point-before}
-use Rattle.ace_model.proofs.Trace.Places.{at_point-last, event_at-cases, event_at-now, event_at-below, grant-old, placed-before}
+use Rattle.ace_model.proofs.Trace.Places.{at_point-last, event_at-cases, event_at-now, grant-old, placed-before}
 use Rattle.ace_cert.specs.Checks.{first_grant}
 
 -- a new read has none

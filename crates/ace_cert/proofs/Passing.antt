@@ -1,13 +1,13 @@
 -- What the tests of events say of the reads of a trace: that they pass exactly where each load and each beat is right at the
 -- place that the list gives its read.
-use Rattle.std.proofs.Common.{◌≡◌, ◌⊎◌, inl, inr, ℕ, ◌+◌, ◌<◌, ◌≤◌, Bool, true, false, ◌&&◌, nat_eq, nat_le, List, [], ◌∷◌, length, Option, Some, None, refl, sym, ap, subst, ◌∙◌, arith}
+use Rattle.std.proofs.Common.{◌≡◌, inl, inr, ℕ, ◌<◌, ◌≤◌, Bool, true, ◌&&◌, nat_eq, nat_le, List, [], ◌∷◌, length, Option, Some, None, refl, sym, ap, subst, ◌∙◌, arith}
 use Rattle.std.proofs.lemmas.Bool.{and_parts, and_from, cases_Bool, eqb-true, eq-eqb}
 use Rattle.ace_model.specs.declared.transactions.Transaction.{Transaction}
-use Rattle.ace_model.proofs.Terms.{Event, G, event_at, L, R, Read, Trace, at_point, is_some_and, implies, is_line_read_transaction, transaction_of, transfers, value_of, word_of, IsLoad, IsBeat, IsGrantOf}
-use Rattle.ace_model.proofs.General.Options.{Some-injective, is_some_and-is}
+use Rattle.ace_model.proofs.Terms.{Event, G, L, R, Read, Trace, at_point, is_some_and, is_line_read_transaction, transaction_of, transfers, value_of, word_of, IsLoad, IsBeat, IsGrantOf}
+use Rattle.ace_model.proofs.General.Options.{is_some_and-is}
 use Rattle.ace_model.proofs.General.Booleans.{implies-at}
 use Rattle.ace_model.proofs.Trace.Issued.{transaction_of-name}
-use Rattle.ace_model.proofs.Trace.Growth.{at_point-before, at_point-end}
+use Rattle.ace_model.proofs.Trace.Growth.{at_point-before}
 use Rattle.ace_model.proofs.Trace.Places.{NewBeat, at_point-last, event_at-now, event_at-old, event_at-below, event_at-cases, grant-old, load-cases, beat-cases, beat-below}
 use Rattle.ace_cert.proofs.Grants.{grant-found, grant-first}
 use Rattle.ace_cert.specs.declared.cert.LineOrder.{LineOrder}

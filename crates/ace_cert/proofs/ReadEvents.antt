@@ -1,14 +1,13 @@
 -- Which events are reads, by the test of the events and by the definition of a read, and whose they are.
-use Rattle.std.proofs.Common.{◌≡◌, ◌⊎◌, inl, inr, ℕ, ◌+◌, ◌-◌, ◌<◌, ◌≤◌, Bool, true, false, ◌&&◌, ◌||◌, nat_eq, List, [], ◌∷◌, length, reverse, slice_get, Option, Some, None, option_map, unwrap_or, refl, sym, ap, subst, ◌∙◌, arith}
-use Rattle.std.proofs.lemmas.Bool.{and_parts, and_from, cases_Bool, eqb-true, eq-eqb, or_cases, or_left, or_right}
+use Rattle.std.proofs.Common.{◌≡◌, inl, inr, ℕ, ◌+◌, ◌-◌, true, ◌&&◌, nat_eq, [], ◌∷◌, length, reverse, slice_get, Option, Some, option_map, unwrap_or, refl, sym, ap, subst, ◌∙◌, arith}
+use Rattle.std.proofs.lemmas.Bool.{and_parts, and_from, eqb-true, eq-eqb, or_cases, or_left, or_right}
 use Rattle.ace_model.specs.declared.transactions.Transaction.{Transaction}
-use Rattle.ace_model.proofs.Terms.{Event, Ar, Aw, L, R, G, Read, Write, Trace, at_point, event_at, is_some_and, is_line_read_transaction, issued, transaction_of, IsLoad, IsBeat, HasBeat, IsReadBy}
+use Rattle.ace_model.proofs.Terms.{Event, Ar, Aw, L, R, Read, Write, Trace, at_point, is_line_read_transaction, issued, transaction_of, IsLoad, IsBeat, HasBeat, IsReadBy}
 use Rattle.ace_model.proofs.General.Options.{Some-injective, is_some_and-is}
 use Rattle.ace_model.proofs.Trace.Issued.{issued_at, transaction_of-stands, transaction_of-name}
-use Rattle.ace_model.proofs.Trace.Places.{NewBeat, event_at-below, issued-by, issued_at-later, load-cases, beat-cases}
+use Rattle.ace_model.proofs.Trace.Places.{event_at-below, issued-by, issued_at-later, load-cases, beat-cases}
 use Rattle.ace_cert.specs.declared.cert.ReadPlace.{ReadPlace}
-use Rattle.ace_cert.specs.Certificates.{IsReadNumber}
-use Rattle.ace_cert.specs.Checks.{Reader, is_read_at, reads_at, reader_at, reader_of}
+use Rattle.ace_cert.specs.Checks.{is_read_at, reads_at, reader_at, reader_of}
 use Rattle.ace_cert.proofs.Passing.{beat-was, beat-new, load-was, load-new}
 
 -- by whom

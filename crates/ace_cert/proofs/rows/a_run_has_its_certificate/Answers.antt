@@ -4,8 +4,7 @@ use Rattle.ace_event.specs.Bytes.{merged}
 use Rattle.ace_model.proofs.General.Lists.{slice_get-all}
 use Rattle.ace_cert.specs.declared.cert.LineOrder.{LineOrder}
 use Rattle.ace_cert.specs.declared.cert.ReadPlace.{ReadPlace}
-use Rattle.ace_cert.specs.Certificates.{IsCertificate}
-use Rattle.ace_cert.specs.Checks.{AreInOrder, IsChecked, IsOrderOf, all_pass, is_read_number}
+use Rattle.ace_cert.specs.Checks.{AreInOrder, IsOrderOf, all_pass, is_read_number}
 use Rattle.ace_cert.specs.Worked.{loads_and_stores, one_line, placed_late, two_reads, without_load, without_store, worked_cert}
 use Rattle.ace_cert.proofs.Elements.{all-from_places}
 use Rattle.ace_cert.proofs.Exact.{certificate-from_checks, checks-from_certificate}
