@@ -2,6 +2,7 @@
 
 mod faults;
 mod gates;
+mod packed;
 mod runs;
 
 use ace_io::{Free, MemSink, MemSource, Source};
