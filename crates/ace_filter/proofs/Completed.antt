@@ -50,7 +50,8 @@ module _ (h : Header) (past : Trace) (p : ℕ) (a : IsAccepted h past) (ace : is
       }
 
   -- two of one line are one
-  one_id : (l i j : ℕ) (x y : Transaction) → outstanding h past p Write i ≡ Some x → outstanding h past p Write j ≡ Some y → is_on x l ≡ true → is_on y l ≡ true → i ≡ j
+  one_id : (l i j : ℕ) (x y : Transaction) → outstanding h past p Write i ≡ Some x → outstanding h past p Write j ≡ Some y → is_on x l ≡ true
+      → is_on y l ≡ true → i ≡ j
   one_id l i j x y ox oy nx ny =
       let one = one_on_line h past a p Write Write i j l x y ox oy nx ny in
       sym (outstanding-name h past p Write i x ox).id ∙ ap (λ (v : Transaction). v.id) one ∙ (outstanding-name h past p Write j y oy).id
@@ -60,7 +61,8 @@ module _ (h : Header) (past : Trace) (p : ℕ) (a : IsAccepted h past) (ace : is
       let same : x.id ≡ y.id = one_id l x.id y.id x.one y.one x.out y.out x.on y.on in
       (write_queue h past a p ace).distinct m n y.id x.late y.late (x.there ∙ ap Some same) y.there
 
-module _ (h : Header) (past : Trace) (p i resp l : ℕ) (a : IsAccepted h (B p i resp ∷ past)) (line : dropped_line (transaction_of past p Write i) ≡ Some l) where
+module _ (h : Header) (past : Trace) (p i resp l : ℕ) (a : IsAccepted h (B p i resp ∷ past))
+    (line : dropped_line (transaction_of past p Write i) ≡ Some l) where
   apart : AreApart past (completed_lines past p) (acknowledgements past p Write) l
   apart = record {
     once = λ m n k late_m late_n x y. once h past p a.0 ace m n k (waiting h past p a.0 ace m k late_m x) (waiting h past p a.0 ace n k late_n y);
@@ -80,7 +82,8 @@ module _ (h : Header) (past : Trace) (p i resp l : ℕ) (a : IsAccepted h (B p i
       on = (dropping d.0 l d.2).on
 
       ace : is_ace h p ≡ true
-      ace = subst (λ v. is_ace h v ≡ true) (transaction_of-name past p Write i d.0 d.1).port (dropper-ace h past d.0 l a.0 (named-issued past p Write i d.0 d.1) d.2)
+      ace = subst (λ v. is_ace h v ≡ true) (transaction_of-name past p Write i d.0 d.1).port
+          (dropper-ace h past d.0 l a.0 (named-issued past p Write i d.0 d.1) d.2)
 
       y : (x : Transaction) × (outstanding h past p Write i ≡ Some x) × (may_respond past x ≡ true)
       y = is_some_and-is (outstanding h past p Write i) (may_respond past) (and_parts (nat_eq resp 0) _ (accepted_keeps h past (B p i resp) a).rule_26).1
@@ -94,5 +97,6 @@ module _ (h : Header) (past : Trace) (p i resp l : ℕ) (a : IsAccepted h (B p i
           sym (at_name (is_complete past) y.0 p Write i name) ∙ not-true _ (and_parts (not (is_complete past y.0.port y.0.chan y.0.id)) _ y.2).0
 
   -- so there is room for the write
-  pub few-writes : length (turns_from (acknowledgements past p Write) (drop (acknowledgements past p Write) (completed_lines past p))) < length (known_lines past)
+  pub few-writes : length (turns_from (acknowledgements past p Write) (drop (acknowledgements past p Write) (completed_lines past p)))
+      < length (known_lines past)
   few-writes = few-wait past (completed_lines past p) (acknowledgements past p Write) l apart

@@ -93,7 +93,8 @@ module _ (h : Header) (past : Trace) where
       let w = ends_write_of h past q st a z.0 (ap (λ v. acknowledged past v Write) (sym port) ∙ z.1) in
       let dropped = dropping z.0 l z.2 in
       let o = (accepted_holds h past a.0).grants l x g in
-      let one : x ≡ z.0 = one_on_line h past a.0 x.port x.chan Write x.id w.id l x z.0 o.0 (ap (λ v. outstanding h past v Write w.id) port ∙ w.out) o.1 dropped.on in
+      let one : x ≡ z.0 = one_on_line h past a.0 x.port x.chan Write x.id w.id l x z.0 o.0
+      (ap (λ v. outstanding h past v Write w.id) port ∙ w.out) o.1 dropped.on in
       let k = is_some_and-is (read_kind x) takes_line t in
       let none = (read_writes_none x k.0 k.1).0 in
       let some : write_kind x ≡ Some dropped.kind = ap write_kind one ∙ dropped.is_kind in cc
@@ -109,19 +110,22 @@ module _ (h : Header) (past : Trace) where
       let port : p ≡ q = eqb-true p q parts.0 in
       let z = is_some_and-is (acknowledged past p Write) (λ z. is_drop_of z l) parts.1 in
       let dropped = dropping z.0 l z.2 in
-      let well = is_none_or-at (acknowledged past q Write) (ends_write_well h past st) z.0 (accepted_keeps h past (Wk q st) a).rule_28 (ap (λ v. acknowledged past v Write) (sym port) ∙ z.1) in
+      let well = is_none_or-at (acknowledged past q Write) (ends_write_well h past st) z.0 (accepted_keeps h past (Wk q st) a).rule_28
+      (ap (λ v. acknowledged past v Write) (sym port) ∙ z.1) in
       let ends = is_none_or-at (write_kind z.0) _ dropped.kind well dropped.is_kind in
       let named : (nat_eq p q && is_some_on (acknowledged past p Write) l) ≡ true = and_from (nat_eq p q) _ parts.0 (rw z.1 dropped.on) in
       rw named (drop_ends dropped.kind _ st dropped.drops_it ends)
   dropped_invalid e a p l d = cc
 
   module _ (e : Event) (a : IsAccepted h (e ∷ past)) (k : Keeps h past) where
-    taking_step : (l : ℕ) (x : Transaction) → granted h (e ∷ past) l ≡ Some x → is_some_and (read_kind x) takes_line ≡ true → may_hold (e ∷ past) x.port l ≡ true
+    taking_step : (l : ℕ) (x : Transaction) → granted h (e ∷ past) l ≡ Some x → is_some_and (read_kind x) takes_line ≡ true
+        → may_hold (e ∷ past) x.port l ≡ true
     taking_step l x g t =
         elim (newest_on-cases (given past e) l (without (ended h past e) (granted h past l)) x g) [
           | inl new ↦
               let addr = (and_parts (is_line x) (nat_eq x.addr l) new.1).1 in
-              let it : takes_at past e x.port l ≡ true = rw new.0 (and_from (nat_eq x.port x.port) (is_take_of x l) (eq-eqb x.port x.port refl) (and_from _ (nat_eq x.addr l) t addr)) in
+              let it : takes_at past e x.port l ≡ true = rw new.0
+              (and_from (nat_eq x.port x.port) (is_take_of x l) (eq-eqb x.port x.port refl) (and_from _ (nat_eq x.addr l) t addr)) in
               taken past e x.port l it
           | inr old ↦
               let was = (without-some (ended h past e) (granted h past l) x old.0).0 in
@@ -130,7 +134,8 @@ module _ (h : Header) (past : Trace) where
 
     held_step : (p l : ℕ) → is_invalid (state_of h (e ∷ past) p l) ≡ false → may_hold (e ∷ past) p l ≡ true
     held_step p l held =
-        let kept : may_hold past p l ≡ true → may_hold (e ∷ past) p l ≡ true = stays past e p l (false_from_ne_true _ (λ d. let gone = dropped_invalid e a p l d in cc)) in
+        let kept : may_hold past p l ≡ true → may_hold (e ∷ past) p l ≡ true = stays past e p l
+        (false_from_ne_true _ (λ d. let gone = dropped_invalid e a p l d in cc)) in
         elim (cases_Bool (is_invalid (state_of h past p l))) [
           | inr was ↦ kept (k.held p l was)
           | inl none ↦ elim (state_moves h past e a p l) [

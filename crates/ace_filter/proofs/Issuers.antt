@@ -93,7 +93,8 @@ pub record Taking (h : Header) (past : Trace) (p l : ℕ) : Type 0 where
   pub ace : is_ace h p ≡ true
   pub known : is_known past l ≡ true
 
-named-taking : (h : Header) (past : Trace) (p l : ℕ) (x : Transaction) → IsAccepted h past → IsIssued past x → (nat_eq x.port p && is_take_of x l) ≡ true → Taking h past p l
+named-taking : (h : Header) (past : Trace) (p l : ℕ) (x : Transaction) → IsAccepted h past → IsIssued past x
+    → (nat_eq x.port p && is_take_of x l) ≡ true → Taking h past p l
 named-taking h past p l x a i t =
     let parts = and_parts (nat_eq x.port p) (is_take_of x l) t in
     let kind = and_parts (is_some_and (read_kind x) takes_line) (nat_eq x.addr l) parts.1 in

@@ -15,7 +15,8 @@ pub bit_cleared : (bits q p : ℕ) → bits < 2 ^ 32 → q < 32
     → nat_eq (bit_at (bit_and bits (4294967295 - 1 * 2 ^ q % 4294967296)) p) 1 ≡ (not (nat_eq q p) && nat_eq (bit_at bits p) 1)
 bit_cleared bits q p small low =
     elim (cases_eq q p) [
-      | inl same ↦ rw (eq-eqb q p same) (ap (λ b. nat_eq b 1) (ap (bit_at (bit_and bits (4294967295 - 1 * 2 ^ q % 4294967296))) (sym same) ∙ bit_at_clear_same w32 bits q low))
+      | inl same ↦ rw (eq-eqb q p same)
+          (ap (λ b. nat_eq b 1) (ap (bit_at (bit_and bits (4294967295 - 1 * 2 ^ q % 4294967296))) (sym same) ∙ bit_at_clear_same w32 bits q low))
       | inr off ↦ rw (ne_eqb q p off) (ap (λ b. nat_eq b 1) (other off))
     ]
   where

@@ -78,7 +78,8 @@ answers-drop : (o : Option Snoop) (line : Option ℕ) (l : ℕ) → option_map s
 answers-drop None line l is = cc
 answers-drop (Some s) line l is = by (snoops_a_line s.snoop) refl (Some-injective _ line is)
   where
-    by : (b : Bool) → snoops_a_line s.snoop ≡ b → (if snoops_a_line s.snoop then Some s.addr else None) ≡ line → is_snoop_on s l ≡ is_dropped (option_map Drops line) l
+    by : (b : Bool) → snoops_a_line s.snoop ≡ b → (if snoops_a_line s.snoop then Some s.addr else None) ≡ line
+        → is_snoop_on s l ≡ is_dropped (option_map Drops line) l
     by true t is = let there : Some s.addr ≡ line = rw t at is in subst (λ o. is_snoop_on s l ≡ is_dropped (option_map Drops o) l) there (rw t refl)
     by false f is = let there : None ≡ line = rw f at is in subst (λ o. is_snoop_on s l ≡ is_dropped (option_map Drops o) l) there (rw f refl)
 
@@ -121,7 +122,8 @@ take-drops None l = refl
 take-drops (Some m) l = refl
 
 module _ (past : Trace) (p i : ℕ) where
-  pub read-granted : (c : Channel) → c ≡ Read → (change : Option Change) → change ≡ option_map Takes (taken_line (transaction_of past p Read i)) → IsChange past (G p c i) p change
+  pub read-granted : (c : Channel) → c ≡ Read → (change : Option Change) → change ≡ option_map Takes (taken_line (transaction_of past p Read i))
+      → IsChange past (G p c i) p change
   read-granted Write chan change is = cc
   read-granted Read chan change is = record {
     takes_it = λ l. read-take (transaction_of past p Read i) p l (λ x o. (transaction_of-name past p Read i x o).port) ∙ ap (λ o. is_taken o l) (sym is);
@@ -162,7 +164,8 @@ module _ (past : Trace) (p : ℕ) where
       with_false false = refl
 
 module _ (h : Header) (past : Trace) (p : ℕ) where
-  pub acknowledged-drop : (st : LineState) → IsAccepted h (Wk p st ∷ past) → (line : Option ℕ) → slice_get (completed_lines past p) (acknowledgements past p Write) ≡ Some line → (l : ℕ)
+  pub acknowledged-drop : (st : LineState) → IsAccepted h (Wk p st ∷ past) → (line : Option ℕ)
+      → slice_get (completed_lines past p) (acknowledgements past p Write) ≡ Some line → (l : ℕ)
       → drops_at past (Wk p st) p l ≡ is_dropped (option_map Drops line) l
   acknowledged-drop st a line is l =
       let own = eq-eqb p p (refl {a = p}) in

@@ -30,7 +30,8 @@ absent n (None ∷ xs) l none = absent (n + 1) xs l (λ k is. none (suc k) is)
 absent n (Some m ∷ xs) l none =
     (ne_eqb l m (λ same. none 0 (ap (λ v. Some (Some v)) (sym same))), absent (n + 1) xs l (λ k is. none (suc k) is))
 
-distinct : (n : ℕ) (xs : List (Option ℕ)) → ((i j l : ℕ) → slice_get xs i ≡ Some (Some l) → slice_get xs j ≡ Some (Some l) → i ≡ j) → IsDistinct nat_eq (lines_of n xs)
+distinct : (n : ℕ) (xs : List (Option ℕ)) → ((i j l : ℕ) → slice_get xs i ≡ Some (Some l) → slice_get xs j ≡ Some (Some l) → i ≡ j)
+    → IsDistinct nat_eq (lines_of n xs)
 unfolding IsDistinct
 distinct n [] once = tt
 distinct n (None ∷ xs) once = distinct (n + 1) xs (λ i j l x y. let same = once (suc i) (suc j) l x y in omega (arith, same))
@@ -46,11 +47,14 @@ pub record AreApart (past : Trace) (all : List (Option ℕ)) (done line : ℕ) :
   pub line_known : is_known past line ≡ true
 
 -- so fewer wait than lines are known
-pub few-wait : (past : Trace) (all : List (Option ℕ)) (done line : ℕ) → AreApart past all done line → length (turns_from done (drop done all)) < length (known_lines past)
+pub few-wait : (past : Trace) (all : List (Option ℕ)) (done line : ℕ) → AreApart past all done line
+    → length (turns_from done (drop done all)) < length (known_lines past)
 few-wait past all done line a =
-    let within : length (line ∷ lines_of done (drop done all)) ≤ length (known_lines past) = length-le_from_is_member nat_eq_equiv (line ∷ lines_of done (drop done all)) (known_lines past)
+    let within : length (line ∷ lines_of done (drop done all)) ≤ length (known_lines past) = length-le_from_is_member nat_eq_equiv
+    (line ∷ lines_of done (drop done all)) (known_lines past)
     (IsDistinct-cons nat_eq line (lines_of done (drop done all)) (absent done (drop done all) line (λ k is. a.fresh (done + k) (omega arith) (at k line is)))
-    (distinct done (drop done all) (λ i j l x y. let same = a.once (done + i) (done + j) l (omega arith) (omega arith) (at i l x) (at j l y) in omega (arith, same))))
+    (distinct done (drop done all) (λ i j l x y. let same = a.once (done + i) (done + j) l (omega arith) (omega arith)
+    (at i l x) (at j l y) in omega (arith, same))))
     (λ q one. known-listed past q ∙ listed q one) in
     let long = length-map (turns_from done (drop done all)) (λ (t : LineTurn). t.line) in
     omega (arith, within, long)

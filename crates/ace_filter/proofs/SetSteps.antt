@@ -8,11 +8,13 @@ use Rattle.ace_model.proofs.General.Options.{is_some_and-is}
 use Rattle.ace_model.proofs.Trace.Issued.{transaction_of-name}
 
 -- no more lines are known than there is room for
-pub known-fits : (past : Trace) (e : Event) (n : ℕ) → length (known_lines past) ≤ n → (is_some_and (issued (length past) e) (names_new_line past) ≡ true → length (known_lines past) < n)
+pub known-fits : (past : Trace) (e : Event) (n : ℕ) → length (known_lines past) ≤ n
+    → (is_some_and (issued (length past) e) (names_new_line past) ≡ true → length (known_lines past) < n)
     → length (known_lines (e ∷ past)) ≤ n
 known-fits past e n few room = by (issued (length past) e) room
   where
-    by : (o : Option Transaction) → (is_some_and o (names_new_line past) ≡ true → length (known_lines past) < n) → length (add_line past o (known_lines past)) ≤ n
+    by : (o : Option Transaction) → (is_some_and o (names_new_line past) ≡ true → length (known_lines past) < n)
+        → length (add_line past o (known_lines past)) ≤ n
     by None room = few
     by (Some x) room =
         elim (cases_Bool (names_new_line past x)) [
@@ -37,7 +39,8 @@ drops-elsewhere past e p l n = refl
 kept-still : (past : Trace) (h : Header) (e : Event) (p l : ℕ) → port_of e ≢ Some p → kept_ports h (e ∷ past) l p ≡ kept_ports h past l p
 kept-still past h e p l n = rw (takes-elsewhere past e p l n, drops-elsewhere past e p l n) refl
 
-both-ways : (ace taken dropped held : Bool) → (taken ≡ true → ace ≡ true) → (taken || (not dropped && (ace && held))) ≡ (ace && (taken || (not dropped && held)))
+both-ways : (ace taken dropped held : Bool) → (taken ≡ true → ace ≡ true)
+    → (taken || (not dropped && (ace && held))) ≡ (ace && (taken || (not dropped && held)))
 both-ways true taken dropped held may = refl
 both-ways false true dropped held may = let bad = may refl in cc
 both-ways false false true held may = refl
@@ -54,7 +57,8 @@ sets-after h past e port c a own change old new was is l p =
           let here = eq-eqb port p same in
           let takes_it : is_taken c l ≡ takes_at past e p l = sym (change.takes_it l) ∙ ap (λ v. takes_at past e v l) same in
           let drops_it : is_dropped c l ≡ drops_at past e p l = sym (change.drops_it l) ∙ ap (λ v. drops_at past e v l) same in
-          is l p ∙ rw (here, takes_it, drops_it, was l p) (both-ways (is_ace h p) (takes_at past e p l) (drops_at past e p l) (may_hold past p l) (λ t. (taking h past e p l a t).ace))
+          is l p ∙ rw (here, takes_it, drops_it, was l p)
+          (both-ways (is_ace h p) (takes_at past e p l) (drops_at past e p l) (may_hold past p l) (λ t. (taking h past e p l a t).ace))
       | inr off ↦
           let other = ne_eqb port p off in
           is l p ∙ rw other (was l p) ∙ sym (kept-still past h e p l (λ q. off (let both = sym own ∙ q in port-same both)))

@@ -37,7 +37,8 @@ module _ (h : Header) (past : Trace) (p addr code : ℕ) (a : IsAccepted h (Ac p
         let s = waiting past p n addr late x in
         let was = ((snoops h past a.0).pending p n addr s.0 s.1).snooped in
         let may = implies-at (snoops_a_line code) (may_snoop h past p addr code) (accepted_keeps h past (Ac p addr code) a).rule_13 line in
-        let two = and_parts (is_some_and (granted h past addr) (λ x. may_snoop_for past x p code) && not (was_snooped past p addr)) (not (owes_wack h past p addr)) may in
+        let two = and_parts (is_some_and (granted h past addr) (λ x. may_snoop_for past x p code) && not (was_snooped past p addr))
+        (not (owes_wack h past p addr)) may in
         let none = not-true (was_snooped past p addr) (and_parts _ (not (was_snooped past p addr)) two.0).1 in cc;
     line_known = let g = snooped-granted h past p addr code a line in known-granted h past a.0 addr g.0 g.1;
   }

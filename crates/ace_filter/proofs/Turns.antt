@@ -54,7 +54,8 @@ module _ (all : List (Option ℕ)) (done : ℕ) (within : done < length all) whe
           record { is = there.0 ∙ ap (λ v. Some (Some v)) same; rest = ap (drop 1) there.1 }
 
   -- or it hasn't
-  pub ends-none : (queue : List LineTurn) → queue ≡ turns_from done (drop done all) → ((t : LineTurn) → slice_get queue 0 ≡ Some t → t.number ≢ done) → Ending all done None queue
+  pub ends-none : (queue : List LineTurn) → queue ≡ turns_from done (drop done all) → ((t : LineTurn) → slice_get queue 0 ≡ Some t → t.number ≢ done)
+      → Ending all done None queue
   ends-none queue is other = by (get_or all done None) refl
     where
       by : (o : Option ℕ) → get_or all done None ≡ o → Ending all done None queue

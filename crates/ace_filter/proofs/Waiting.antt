@@ -18,7 +18,8 @@ pub lines-count : (past : Trace) (p : ℕ) → length (completed_lines past p) �
 lines-count [] p = refl
 lines-count (e ∷ past) p = by e (lines-count past p)
   where
-    by : (e : Event) → length (completed_lines past p) ≡ length (completed past p Write) → length (completed_lines (e ∷ past) p) ≡ length (completed (e ∷ past) p Write)
+    by : (e : Event) → length (completed_lines past p) ≡ length (completed past p Write)
+        → length (completed_lines (e ∷ past) p) ≡ length (completed (e ∷ past) p Write)
     by (B q i resp) same =
         elim (cases_Bool (nat_eq p q)) [
           | inr f ↦ rw f same
@@ -69,12 +70,14 @@ waits h (e ∷ past) a p n i ace low is =
       | inr new ↦
           let c = completing past p e i new.1 in
           let at : n ≡ length (completed_lines past p) = new.0 ∙ sym (lines-count past p) in
-          ap (λ o. slice_get (more (completed_lines past p) o) n) c.0 ∙ slice_get-at_end (completed_lines past p) n _ at ∙ ap (λ o. Some (dropped_line o)) (sym c.1)
+          ap (λ o. slice_get (more (completed_lines past p) o) n) c.0 ∙ slice_get-at_end (completed_lines past p) n _ at
+          ∙ ap (λ o. Some (dropped_line o)) (sym c.1)
     ]
   where
     same : (x : Transaction) → outstanding h past p Write i ≡ Some x → transaction_of (e ∷ past) p Write i ≡ transaction_of past p Write i
     same x o = by (issued (length past) e) refl
       where
-        by : (new : Option Transaction) → issued (length past) e ≡ new → newest_named new p Write i (transaction_of past p Write i) ≡ transaction_of past p Write i
+        by : (new : Option Transaction) → issued (length past) e ≡ new
+            → newest_named new p Write i (transaction_of past p Write i) ≡ transaction_of past p Write i
         by None s = refl
         by (Some y) s = let apart = issued_apart h past e a p Write i x y o s in rw apart refl

@@ -1,4 +1,4 @@
--- What the queue of the lines that a port may lose says of all that began, and how much of it ended.
+-- What the queue of the lines that a port may lose says of what began at it, and how much ended.
 use Rattle.std.specs.Prelude.{ℕ, ◌≡◌, ◌≤◌, ◌<◌, ◌+◌, List, [], ◌∷◌, length, drop, Option, Some, None}
 use Rattle.std.specs.VecDeque.{deque_capacity}
 use Rattle.ace_filter.specs.declared.queue.LineTurn.{LineTurn}

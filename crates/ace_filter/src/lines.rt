@@ -104,7 +104,8 @@ pub fn line_under(lines: &[Option<u32>; 256], id: u8) -> Option<u32>
 
 /// Under the identifier this line is kept from now on.
 pub fn set_line(lines: &mut [Option<u32>; 256], id: u8, line: Option<u32>)
-    ensures { (i : ℕ) → line_under lines.new i ≡ (if id == i then line else line_under lines.old i) }
+    ensures { (i : ℕ) → line_under lines.new i
+        ≡ (if id == i then line else line_under lines.old i) }
 {
     lines[usize::from(id)] = line;
 }

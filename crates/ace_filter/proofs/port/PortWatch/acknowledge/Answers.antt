@@ -8,7 +8,8 @@ pub returns-clause-stands : goal.returns-clause-stands
 returns-clause-stands c = λ h past p st heard s.
     let few = heard.few in
     let count = lines-few past p in
-    let ended = c.end.ensures.stands (completed_lines past p) (acknowledgements past p Write) s.complete (some-write h past p st heard.accepted) (omega (arith, few, count)) in
+    let ended = c.end.ensures.stands (completed_lines past p) (acknowledgements past p Write) s.complete (some-write h past p st heard.accepted)
+    (omega (arith, few, count)) in
     record {
       reads = s.reads;
       writes = s.writes;

@@ -18,7 +18,8 @@ returns-clause-stands c = λ h past p resp lines heard known room s.
     let low = few-writes h past p i resp l.0 heard.accepted (sym line ∙ l.1) in
     let long = ap length s.complete.lines in
     omega (arith, low, long, known) in
-    let began = c.begin.ensures.stands (completed_lines past p) (acknowledgements past p Write) lines s.complete room.complete fits (omega (arith, few, count)) in
+    let began = c.begin.ensures.stands (completed_lines past p) (acknowledgements past p Write) lines s.complete room.complete fits
+    (omega (arith, few, count)) in
     record {
       reads = s.reads;
       writes = s.writes;

@@ -10,7 +10,8 @@ returns-in-Some-clause-line c = λ all done s low.
 
 pub returns-in-Some-clause-stands : goal.returns-in-Some-clause-stands
 returns-in-Some-clause-stands c = λ all done s low few.
-    let e = ends-first all done low c.args.self.now.lines.items c.in-Some.turn s.lines (sym c.oldest.ensures ∙ c.in-Some.is) (c.if-turn-number.true ∙ s.ended) in
+    let e = ends-first all done low c.args.self.now.lines.items c.in-Some.turn s.lines (sym c.oldest.ensures ∙ c.in-Some.is)
+    (c.if-turn-number.true ∙ s.ended) in
     let ended = s.ended in
     record { lines = c.pop_front-first.ensures.rest ∙ e.rest; begun = s.begun; ended = omega (arith, ended, low, few); within = omega (arith, low) }
 
