@@ -1,10 +1,10 @@
 -- The complete WriteBacks, WriteEvicts and Evicts of a port that wait for their WK: one for each line at most.
-use Rattle.std.proofs.Common.{◌≡◌, ℕ, ◌≤◌, ◌<◌, true, false, not, ◌&&◌, nat_eq, ◌∷◌, length, drop, get_or, Option, Some, None, slice_get, refl, sym, ap, subst, ◌∙◌, arith}
+use Rattle.std.proofs.Common.{◌≡◌, ℕ, ◌≤◌, ◌<◌, true, false, not, nat_eq, ◌∷◌, length, drop, get_or, Some, slice_get, sym, ap, subst, ◌∙◌, arith}
 use Rattle.std.proofs.lemmas.Bool.{and_parts, not-true}
 use Rattle.std.proofs.lemmas.Option.{slice_get-get_or, slice_get_within}
 use Rattle.ace_model.specs.WriteRules.{may_respond}
 use Rattle.ace_model.specs.Transactions.{is_complete}
-use Rattle.ace_filter.proofs.Terms.{B, Write, Header, Transaction, Trace, IsAccepted, is_ace, is_on, is_known, known_lines, transaction_of, outstanding, completed, acknowledgements, completed_lines, dropped_line, is_drop_of, turns_from}
+use Rattle.ace_filter.proofs.Terms.{B, Write, Header, Transaction, Trace, IsAccepted, is_ace, is_on, known_lines, transaction_of, outstanding, completed, acknowledgements, completed_lines, dropped_line, is_drop_of, turns_from}
 use Rattle.ace_filter.proofs.Holders.{dropping}
 use Rattle.ace_filter.proofs.Issuers.{dropped-is, dropper-ace}
 use Rattle.ace_filter.proofs.Rooms.{AreApart, few-wait}

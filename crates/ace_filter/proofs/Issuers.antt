@@ -1,20 +1,18 @@
 -- What the rules say of the transactions that take and give up lines: their ports are ACE ports, and their lines are known.
-use Rattle.std.proofs.Common.{◌≡◌, ℕ, Bool, true, false, ◌&&◌, ◌||◌, nat_eq, ◌∷◌, length, Option, Some, None, refl, sym, ap, subst, ◌∙◌, inl, inr}
-use Rattle.std.proofs.lemmas.Bool.{and_from, and_parts, cases_Bool, eq-eqb, eqb-true, or_cases, or_left}
+use Rattle.std.proofs.Common.{◌≡◌, ℕ, Bool, true, false, ◌&&◌, ◌||◌, nat_eq, length, Option, Some, None, refl, subst, inl, inr}
+use Rattle.std.proofs.lemmas.Bool.{and_from, and_parts, cases_Bool, eq-eqb, eqb-true, or_left}
 use Rattle.ace_codes.specs.declared.kind.ArKind.TheVariants as read
 use Rattle.ace_codes.specs.declared.kind.AwKind.TheVariants as write
 use Rattle.ace_model.specs.AddressRules.{k2}
 use Rattle.ace_model.specs.Kinds.{is_lite_read, is_lite_write}
 use Rattle.ace_model.specs.Trace.{implies}
-use Rattle.ace_filter.proofs.Terms.{ArKind, AwKind, Event, Ar, Aw, G, Header, Transaction, Trace, IsAccepted, is_some_and, is_none_or, ar_kind_of, aw_kind_of, is_ace, is_line, is_on, is_line_read, is_known, issued, given, read_kind, write_kind, transaction_of, may_issue_read, may_issue_write}
+use Rattle.ace_filter.proofs.Terms.{ArKind, AwKind, Event, Ar, Aw, G, Header, Transaction, Trace, IsAccepted, is_some_and, is_none_or, ar_kind_of, aw_kind_of, is_ace, is_line, is_on, is_line_read, is_known, issued, given, read_kind, write_kind, may_issue_read, may_issue_write}
 use Rattle.ace_filter.proofs.Terms.{is_take_of, takes_at, takes_line, drops_line, dropped_line, is_drop_of}
-use Rattle.ace_filter.proofs.Holders.{Dropping, dropping}
 use Rattle.ace_model.proofs.General.Booleans.{implies-at}
 use Rattle.ace_model.proofs.General.Options.{is_some_and-is, some_if-is}
 use Rattle.ace_model.proofs.Lines.Known.{known-issued}
 use Rattle.ace_model.proofs.Rules.Keeps.{accepted_keeps}
 use Rattle.ace_model.proofs.Trace.Growth.{IsIssued, named-issued}
-use Rattle.ace_model.proofs.Trace.Issued.{transaction_of-name}
 use Rattle.ace_model.proofs.Trace.IssuedTransactions.{issued-by-rule}
 
 -- ---- kinds -------------------------------------------------------------------------------------------

@@ -1,15 +1,13 @@
 -- What is kept of a port, event by event.
-use Rattle.std.proofs.Common.{◌≡◌, ◌≢◌, ℕ, zero, suc, ◌+◌, ◌-◌, ◌^◌, ◌≤◌, ◌<◌, Bool, true, false, not, ◌&&◌, ◌++◌, nat_eq, nat_lt, le_refl, [], ◌∷◌, length, map, drop, replicate, Option, Some, None, IsSome, is_some, option_map, slice_get, if◌then◌else◌, refl, sym, ap, subst, ◌∙◌, inl, inr, arith, length-append}
+use Rattle.std.proofs.Common.{◌≡◌, ◌≢◌, ℕ, zero, suc, ◌+◌, ◌≤◌, ◌<◌, Bool, true, false, ◌&&◌, ◌++◌, nat_eq, nat_lt, le_refl, [], ◌∷◌, length, replicate, Option, Some, None, option_map, slice_get, if◌then◌else◌, refl, sym, ap, subst, ◌∙◌, inl, inr, arith, length-append}
 use Rattle.std.proofs.lemmas.Bool.{and_parts, cases_Bool, eq-eqb, ne_eqb}
 use Rattle.std.proofs.lemmas.List.{length-map, map-append}
 use Rattle.std.proofs.lemmas.Option.{slice_get-map, slice_get_within}
 use Rattle.ace_model.specs.Transactions.{transaction_under}
-use Rattle.ace_filter.proofs.Terms.{Ac, Ar, Aw, B, Channel, Cr, G, Wk, Read, Write, Event, Header, LineState, Snoop, Transaction, Trace, IsAccepted, is_some_and, is_invalid, is_ace, port_of, acknowledged, acknowledgements, answered, answers, answers_line, completed, is_snoop_on, known_lines, next_complete, read_kind, snoops_a_line, snoops_of, transaction_of, write_kind}
-use Rattle.ace_filter.proofs.Terms.{IsChange, IsHeard, PortStands, PortWatch, QueueStands, Change, Drops, Takes, completed_lines, drops, drops_at, drops_line, dropped_line, is_drop_of, is_dropped, is_take_of, is_taken, taken_line, takes_at, takes_line, line_under, snooped_line, snooped_lines, turns_from}
-use Rattle.ace_filter.proofs.Completed.{few-writes}
-use Rattle.ace_filter.proofs.Snooped.{few-snoops}
-use Rattle.ace_filter.proofs.Waiting.{lines-count, lines-few, waits}
-use Rattle.ace_model.proofs.General.Options.{Some-injective, some_is, some_if-is}
+use Rattle.ace_filter.proofs.Terms.{Ac, Ar, Aw, B, Channel, Cr, G, Wk, Read, Write, Event, Header, LineState, Snoop, Transaction, Trace, IsAccepted, is_some_and, is_invalid, is_ace, port_of, acknowledged, acknowledgements, answered, answers, answers_line, completed, is_snoop_on, next_complete, read_kind, snoops_a_line, snoops_of, transaction_of, write_kind}
+use Rattle.ace_filter.proofs.Terms.{IsChange, PortStands, PortWatch, Change, Drops, Takes, completed_lines, drops_at, drops_line, dropped_line, is_drop_of, is_dropped, is_take_of, is_taken, taken_line, takes_line, line_under, snooped_line, snooped_lines}
+use Rattle.ace_filter.proofs.Waiting.{lines-count, waits}
+use Rattle.ace_model.proofs.General.Options.{Some-injective, some_is}
 use Rattle.ace_model.proofs.Trace.Issued.{transaction_of-name}
 use Rattle.ace_model.proofs.Rules.Keeps.{accepted_keeps}
 

@@ -1,5 +1,5 @@
 -- The sets after an event, and the lines that are known.
-use Rattle.std.proofs.Common.{◌≡◌, ◌≢◌, ℕ, ◌+◌, ◌-◌, ◌≤◌, ◌<◌, Bool, true, false, not, ◌&&◌, ◌||◌, nat_eq, List, [], ◌∷◌, length, Option, Some, None, refl, sym, ap, subst, ◌∙◌, inl, inr, arith}
+use Rattle.std.proofs.Common.{◌≡◌, ◌≢◌, ℕ, ◌≤◌, ◌<◌, Bool, true, false, not, ◌&&◌, ◌||◌, nat_eq, [], ◌∷◌, length, Option, Some, None, refl, sym, ap, ◌∙◌, inl, inr, arith}
 use Rattle.std.proofs.lemmas.Bool.{and_parts, cases_Bool, cases_eq, eq-eqb, false_from_ne_true, ne_eqb, eqb-true}
 use Rattle.std.proofs.lemmas.Nat.Bits.{bit_at-zero}
 use Rattle.ace_filter.proofs.Terms.{bit_at, Change, Cr, Event, G, Header, Transaction, Trace, Wk, IsAccepted, is_ace, is_some_and, issued, given, add_line, known_lines, names_new_line, port_of, IsChange, drops_at, is_dropped, is_take_of, is_taken, kept_ports, may_hold, takes_at}

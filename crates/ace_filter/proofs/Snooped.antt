@@ -1,11 +1,11 @@
 -- The line snoops of a port that wait for their CR: one for each line at most.
-use Rattle.std.proofs.Common.{◌≡◌, ℕ, ◌≤◌, ◌<◌, true, false, not, ◌&&◌, nat_eq, ◌∷◌, length, map, drop, Option, Some, None, option_map, slice_get, refl, sym, ap, ◌∙◌}
+use Rattle.std.proofs.Common.{◌≡◌, ℕ, ◌≤◌, ◌<◌, true, not, ◌&&◌, nat_eq, ◌∷◌, length, drop, Option, Some, None, option_map, slice_get, refl, sym, ◌∙◌}
 use Rattle.std.proofs.lemmas.Bool.{and_from, and_parts, eq-eqb, not-true}
 use Rattle.std.proofs.lemmas.Option.{slice_get-map}
 use Rattle.ace_model.specs.Grants.{was_snooped}
 use Rattle.ace_model.specs.SnoopRules.{may_snoop, may_snoop_for}
 use Rattle.ace_model.specs.States.{owes_wack}
-use Rattle.ace_filter.proofs.Terms.{Ac, Header, Snoop, Trace, IsAccepted, is_some_and, granted, is_known, known_lines, answers, is_snoop_on, snoops_a_line, snoops_of, snooped_line, snooped_lines, turns_from}
+use Rattle.ace_filter.proofs.Terms.{Ac, Header, Snoop, Trace, IsAccepted, is_some_and, granted, known_lines, answers, snoops_a_line, snoops_of, snooped_line, snooped_lines, turns_from}
 use Rattle.ace_filter.proofs.Rooms.{AreApart, few-wait}
 use Rattle.ace_model.proofs.General.Booleans.{implies-at}
 use Rattle.ace_model.proofs.General.Options.{Some-injective, some_if-is}

@@ -1,16 +1,14 @@
 -- The complete writes of an ACE port that wait for their WK, by the lines that they give up. Each is outstanding, and its
 -- identifier isn't used again before its WK (K4), so the line that was kept at its B is that of the last write under the
 -- identifier.
-use Rattle.std.proofs.Common.{◌≡◌, ◌⊎◌, ℕ, ◌+◌, ◌≤◌, Bool, true, false, not, ◌&&◌, nat_eq, [], ◌∷◌, length, Option, Some, None, slice_get, le_refl, refl, sym, ap, subst, ◌∙◌, arith, inl, inr, length-append}
-use Rattle.std.proofs.lemmas.Bool.{cases_Bool, eqb-true}
-use Rattle.std.proofs.lemmas.Option.{slice_get-get_or}
-use Rattle.ace_filter.proofs.Terms.{LineState, Read, Write, Event, Ar, Aw, B, Rk, Wk, Header, Transaction, Trace, IsAccepted, more, is_ace, issued, transaction_of, outstanding, completed, completes, acknowledgements, acknowledged, next_complete, newest_named}
+use Rattle.std.proofs.Common.{◌≡◌, ℕ, ◌≤◌, true, nat_eq, [], ◌∷◌, length, Option, Some, None, slice_get, refl, sym, ap, ◌∙◌, arith, inl, inr, length-append}
+use Rattle.std.proofs.lemmas.Bool.{cases_Bool}
+use Rattle.ace_filter.proofs.Terms.{Write, Event, B, Wk, Header, Transaction, Trace, IsAccepted, more, is_ace, issued, transaction_of, outstanding, completed, completes, acknowledgements, newest_named}
 use Rattle.ace_filter.proofs.Terms.{completed_line, completed_lines, dropped_line}
 use Rattle.ace_model.proofs.General.Booleans.{above_count}
 use Rattle.ace_model.proofs.General.Lists.{slice_get-at_end, slice_get-grown, slice_get-more}
-use Rattle.ace_model.proofs.General.Options.{Some-injective, some_if-is}
+use Rattle.ace_model.proofs.General.Options.{some_if-is}
 use Rattle.ace_model.proofs.Grants.Stays.{issued_apart}
-use Rattle.ace_model.proofs.Trace.Issued.{outstanding-named}
 use Rattle.ace_model.proofs.Trace.WriteQueue.{write_queue}
 
 -- as many as writes were completed

@@ -1,5 +1,5 @@
 -- What the queue of the lines that a port may lose says of what began at it, and how much ended.
-use Rattle.std.specs.Prelude.{ℕ, ◌≡◌, ◌≤◌, ◌<◌, ◌+◌, List, [], ◌∷◌, length, drop, Option, Some, None}
+use Rattle.std.specs.Prelude.{ℕ, ◌≡◌, ◌≤◌, ◌+◌, List, [], ◌∷◌, length, drop, Option, Some, None}
 use Rattle.std.specs.VecDeque.{deque_capacity}
 use Rattle.ace_filter.specs.declared.queue.LineTurn.{LineTurn}
 use Rattle.ace_filter.specs.declared.queue.LineQueue.{LineQueue}

@@ -1,6 +1,6 @@
-use Rattle.std.proofs.Common.{◌≡◌, ◌+◌, ◌++◌, ◌∷◌, [], ℕ, length, Some, inl, inr, slice_get, subst, ap, ◌∙◌, arith, length-append}
+use Rattle.std.proofs.Common.{◌≡◌, ◌++◌, ◌∷◌, [], length, Some, inl, inr, slice_get, subst, ap, ◌∙◌, arith, length-append}
 use Rattle.std.proofs.lemmas.Grind.{common_steps}
-use Rattle.ace_filter.proofs.Terms.{IsWatched, PortWatch}
+use Rattle.ace_filter.proofs.Terms.{IsWatched}
 use Rattle.ace_model.proofs.General.Lists.{slice_get-more}
 use Rattle.ace_model.proofs.General.Options.{Some-injective}
 use Rattle.ace_filter.proofs.filter.new_ports.Goals as goal

@@ -1,4 +1,4 @@
-use Rattle.std.proofs.Common.{◌≡◌, ◌≢◌, ◌&&◌, ◌||◌, not, nat_eq, ◌∷◌, ◌<◌, ℕ, true, IsSome, Some, sym, ap, ◌∙◌, arith}
+use Rattle.std.proofs.Common.{◌≡◌, ◌≢◌, ◌&&◌, ◌||◌, not, nat_eq, ◌∷◌, ◌<◌, ℕ, Some, sym, ap, ◌∙◌, arith}
 use Rattle.ace_filter.proofs.Terms.{IsAccepted, IsChange, IsHeard, bit_at, is_dropped, is_taken, port_of, set_of}
 use Rattle.ace_filter.proofs.Issuers.{taking}
 use Rattle.ace_filter.proofs.SetSteps.{known-fits, sets-after, sets-still}

@@ -1,4 +1,4 @@
-use Rattle.std.proofs.Common.{◌≡◌, sym, ap, subst, ◌∙◌, arith}
+use Rattle.std.proofs.Common.{sym, ap, subst, ◌∙◌, arith}
 use Rattle.ace_filter.proofs.Terms.{Write, QueueStands, acknowledgements, completed_lines, is_dropped, is_taken}
 use Rattle.ace_filter.proofs.Ports.{acknowledged-drop, acknowledged-more, drop-takes, some-write}
 use Rattle.ace_filter.proofs.Waiting.{lines-few}

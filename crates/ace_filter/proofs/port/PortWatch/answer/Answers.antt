@@ -1,4 +1,4 @@
-use Rattle.std.proofs.Common.{◌≡◌, option_map, sym, ap, subst, ◌∙◌, arith}
+use Rattle.std.proofs.Common.{option_map, sym, ap, subst, ◌∙◌, arith}
 use Rattle.ace_filter.proofs.Terms.{Drops, QueueStands, answers, is_dropped, is_taken, snooped_lines}
 use Rattle.ace_filter.proofs.Ports.{answered-drop, answers-more, drop-takes, few-lines, some-snoop}
 use Rattle.ace_filter.proofs.port.PortWatch.answer.Goals as goal

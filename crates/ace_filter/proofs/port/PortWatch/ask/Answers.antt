@@ -1,4 +1,4 @@
-use Rattle.std.proofs.Common.{◌≡◌, ◌<◌, ◌++◌, ◌∷◌, [], length, true, if◌then◌else◌, Option, Some, None, IsSome, sym, ap, subst, ◌∙◌, arith}
+use Rattle.std.proofs.Common.{◌≡◌, ◌<◌, ◌++◌, ◌∷◌, [], length, true, IsSome, sym, ap, subst, ◌∙◌, arith}
 use Rattle.ace_filter.proofs.Terms.{QueueStands, answers, snooped_lines, snoops_a_line}
 use Rattle.ace_filter.proofs.Snooped.{few-snoops}
 use Rattle.ace_filter.proofs.Ports.{few-lines, snooped-more}

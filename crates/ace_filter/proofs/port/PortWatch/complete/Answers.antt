@@ -1,4 +1,4 @@
-use Rattle.std.proofs.Common.{◌≡◌, ◌<◌, ◌++◌, ◌∷◌, [], length, Option, Some, IsSome, sym, ap, subst, ◌∙◌, arith}
+use Rattle.std.proofs.Common.{◌≡◌, ◌<◌, ◌++◌, ◌∷◌, [], length, IsSome, sym, ap, subst, ◌∙◌, arith}
 use Rattle.ace_filter.proofs.Terms.{Write, QueueStands, acknowledgements, completed_lines, dropped_line, transaction_of}
 use Rattle.ace_filter.proofs.Completed.{few-writes}
 use Rattle.ace_filter.proofs.Ports.{completed-more}

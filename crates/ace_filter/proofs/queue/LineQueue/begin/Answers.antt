@@ -1,4 +1,4 @@
-use Rattle.std.proofs.Common.{◌≡◌, ◌<◌, ◌≤◌, ◌+◌, ◌++◌, ◌∷◌, [], length, drop, Option, None, Some, refl, sym, ap, subst, ◌∙◌, arith, length-append}
+use Rattle.std.proofs.Common.{◌++◌, ◌∷◌, [], drop, sym, ap, ◌∙◌, arith, length-append}
 use Rattle.ace_filter.proofs.Terms.{turn_at, turns_from}
 use Rattle.ace_filter.proofs.Turns.{turns-begin}
 use Rattle.ace_filter.proofs.queue.LineQueue.begin.Goals as goal

@@ -1,4 +1,4 @@
-use Rattle.std.proofs.Common.{◌≡◌, ◌≢◌, ◌≤◌, ◌<◌, ◌+◌, Some, slice_get, sym, ap, ◌∙◌, arith, length}
+use Rattle.std.proofs.Common.{◌≡◌, Some, slice_get, sym, ap, ◌∙◌, arith}
 use Rattle.ace_filter.proofs.Terms.{LineTurn}
 use Rattle.ace_filter.proofs.Turns.{ends-first, ends-none}
 use Rattle.ace_model.proofs.General.Options.{Some-injective}
