@@ -33,11 +33,14 @@ pub goes_on : (s s' : Session) (h : Header) (past : Trace) (records : List AceEv
     → ((now : Trace) → Hears s h now → IsEventThat h (event_of r) (λ e. Hears s' h (e ∷ now) × IsSound h (e ∷ now)))
     → HasCome s h past records n → HasCome s' h past records (n + 1)
 goes_on s s' h past records n r split step (now, hears, rest) =
-    let first = heard_first s' h now r (drop (n + 1) records) (event_of r) refl (step now hears) in
-    (first.0, first.1, λ s2 m fed.
-      let more : n + suc m ≡ n + 1 + m = omega arith in
-      subst (λ (k : ℕ). HasFed s2 h past records k) more
-      (rest s2 (suc m) (subst (λ (rs : List AceEvent). HasFed s2 h now rs (suc m)) (sym split) (first.2 s2 m fed))))
+    let first = heard_first s' h now r (drop (n + 1) records) (event_of r) refl (step now hears) in (
+      first.0,
+      first.1,
+      λ s2 m fed.
+          let more : n + suc m ≡ n + 1 + m = omega arith in
+          subst (λ (k : ℕ). HasFed s2 h past records k) more
+          (rest s2 (suc m) (subst (λ (rs : List AceEvent). HasFed s2 h now rs (suc m)) (sym split) (first.2 s2 m fed))),
+    )
 
 -- a record ends the session
 pub stops : (s s' : Session) (h : Header) (past : Trace) (records : List AceEvent) (n : ℕ) (r : AceEvent) → drop n records ≡ r ∷ drop (n + 1) records

@@ -52,9 +52,9 @@ line_of r = record { words = word_at r 0 ∷ word_at r 1 ∷ word_at r 2 ∷ wor
 abbrev pub event_as : ℕ → AceEvent → Option Event
 event_as kind r =
     if kind == 0 then
-      option_map (λ lock. Ar r.port r.id r.addr r.snoop r.domain r.bar lock) (flag_of r.flag) else
+    option_map (λ lock. Ar r.port r.id r.addr r.snoop r.domain r.bar lock) (flag_of r.flag) else
     if kind == 1 then
-      option_map (λ last. R r.port r.id r.resp last (word_at r 0)) (flag_of r.flag) else
+    option_map (λ last. R r.port r.id r.resp last (word_at r 0)) (flag_of r.flag) else
     if kind == 2 then option_map (λ st. Rk r.port st) (state_of r.state) else
     if kind == 3 then Some (Aw r.port r.id r.addr r.snoop r.domain r.bar) else
     if kind == 4 then option_map (λ last. W r.port r.number last (word_at r 0)) (flag_of r.flag) else
@@ -67,9 +67,9 @@ event_as kind r =
     if kind == 11 then option_map (λ chan. M r.port chan r.id (line_of r)) (channel_of r.flag) else
     if kind == 12 then option_map (λ st. S r.port r.addr st) (state_of r.state) else
     if kind == 13 then
-      option_map (λ x. L r.port r.addr r.index x (word_at r 0)) (flag_of r.flag) else
+    option_map (λ x. L r.port r.addr r.index x (word_at r 0)) (flag_of r.flag) else
     if kind == 14 then
-      option_map (λ x. D r.port r.addr r.strobe x (line_of r)) (flag_of r.flag) else
+    option_map (λ x. D r.port r.addr r.strobe x (line_of r)) (flag_of r.flag) else
     if kind == 15 then option_map (λ res. Op r.port r.number res) (outcome_of r.index) else
     if kind == 16 then Some (Mem r.addr (line_of r)) else
     None

@@ -69,10 +69,10 @@ pub extern "C" fn ace_open(
 pub extern "C" fn ace_feed(alloc: Global, checker: &mut AceChecker, event: &AceEvent) -> u8
     ensures fine { (h : Header) (past : Trace) → Hears checker.old h past → result ≡ 0
         → IsEventThat h (event_of event.now)
-            (λ e. Hears checker.new h (e ∷ past) × IsSound h (e ∷ past)) }
+        (λ e. Hears checker.new h (e ∷ past) × IsSound h (e ∷ past)) }
     ensures ends { (h : Header) (past : Trace) → Hears checker.old h past → result ≢ 0
         → (ending : Ending) × HasEnded checker.new h past ending
-            × IsEnding h past (event_of event.now) ending × (result ≡ status_of ending) }
+        × IsEnding h past (event_of event.now) ending × (result ≡ status_of ending) }
     ensures ended { (h : Header) (past : Trace) (ending : Ending) → HasEnded checker.old h past ending
         → (result ≡ status_of ending) × HasEnded checker.new h past ending }
     ensures closed { session_of checker.old ≡ None

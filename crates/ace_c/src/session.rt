@@ -63,10 +63,10 @@ impl Session {
     pub(crate) fn feed(&mut self, given: &AceEvent) -> u8
         ensures fine { (h : Header) (past : Trace) → Hears self.old h past → result ≡ 0
             → IsEventThat h (event_of given.now)
-                (λ e. Hears self.new h (e ∷ past) × IsSound h (e ∷ past)) }
+            (λ e. Hears self.new h (e ∷ past) × IsSound h (e ∷ past)) }
         ensures ends { (h : Header) (past : Trace) → Hears self.old h past → result ≢ 0
             → (ending : Ending) × HasEnded self.new h past ending
-                × IsEnding h past (event_of given.now) ending × (result ≡ status_of ending) }
+            × IsEnding h past (event_of given.now) ending × (result ≡ status_of ending) }
         ensures ended { (h : Header) (past : Trace) (ending : Ending)
             → HasEnded self.old h past ending
             → (result ≡ status_of ending) × (self.new ≡ self.old) }
@@ -98,7 +98,7 @@ impl Session {
             → IfNone result (IsEventThat h (event_of given.now) (λ e. Hears self.new h (e ∷ past))) }
         ensures ends { (h : Header) (past : Trace) → Hears self.old h past
             → IfSome result (λ ending. IsEnding h past (event_of given.now) ending
-                × ((b : Option Break) × Stands self.new.checker h past b)) }
+            × ((b : Option Break) × Stands self.new.checker h past b)) }
     {
         self.ending_as(given.kind, given)
     }
@@ -108,10 +108,10 @@ impl Session {
     fn ending_as(&mut self, kind: u8, given: &AceEvent) -> Option<Ending>
         ensures fine { (h : Header) (past : Trace) → Hears self.old h past
             → IfNone result
-                (IsEventThat h (event_as kind given.now) (λ e. Hears self.new h (e ∷ past))) }
+            (IsEventThat h (event_as kind given.now) (λ e. Hears self.new h (e ∷ past))) }
         ensures ends { (h : Header) (past : Trace) → Hears self.old h past
             → IfSome result (λ ending. IsEnding h past (event_as kind given.now) ending
-                × ((b : Option Break) × Stands self.new.checker h past b)) }
+            × ((b : Option Break) × Stands self.new.checker h past b)) }
     {
         match event_as(kind, given) {
             Some(event) => self.ending_of(&event),
@@ -126,7 +126,7 @@ impl Session {
             → IfNone result (InRange h.version event.now × Hears self.new h (event.now ∷ past)) }
         ensures ends { (h : Header) (past : Trace) → Hears self.old h past
             → IfSome result (λ ending. EndsAt h past event.now ending
-                × ((b : Option Break) × Stands self.new.checker h past b)) }
+            × ((b : Option Break) × Stands self.new.checker h past b)) }
     {
         if !is_in_range(self.version, event) {
             return Some(Ending::OutOfRange);
