@@ -1,5 +1,4 @@
 -- What a session that goes on has promised.
-use Rattle.std.specs.Option.{MatchOption}
 use Rattle.std.proofs.Common.{Option, Some, None}
 use Rattle.ace_event.specs.declared.event.Event.{Event}
 use Rattle.ace_event.specs.declared.header.Header.{Header}

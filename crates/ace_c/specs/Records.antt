@@ -57,7 +57,8 @@ event_as kind r =
     option_map (λ last. R r.port r.id r.resp last (word_at r 0)) (flag_of r.flag) else
     if kind == 2 then option_map (λ st. Rk r.port st) (state_of r.state) else
     if kind == 3 then Some (Aw r.port r.id r.addr r.snoop r.domain r.bar) else
-    if kind == 4 then option_map (λ last. W r.port r.number last (word_at r 0)) (flag_of r.flag) else
+    if kind == 4 then
+    option_map (λ last. W r.port r.number last (word_at r 0)) (flag_of r.flag) else
     if kind == 5 then Some (B r.port r.id r.resp) else
     if kind == 6 then option_map (λ st. Wk r.port st) (state_of r.state) else
     if kind == 7 then Some (Ac r.port r.addr r.snoop) else

@@ -17,9 +17,9 @@ pub enum Ending {
     TooManyEvents,
 }
 
-/// The answer about all events that were fed. `event` is of status 0 how many they are, and else the
-/// number of the event that ended it, from 1; `rule` is of status 1 the rule that it breaks, and
-/// else 0.
+/// The answer about all events that were fed. `event` is of status 0 how many they are, and else
+/// the number of the event that ended it, from 1; `rule` is of status 1 the rule that it breaks,
+/// and else 0.
 #[repr(C)]
 #[derive(Clone, Copy, Debug, PartialEq, Eq)]
 pub struct AceAnswer {

@@ -10,7 +10,7 @@ mod range;
 mod record;
 mod session;
 
-ghost use Rattle.std.specs.Prelude.{◌≡◌, ◌≢◌, ◌∷◌, [], ◌+◌, None, length};
+ghost use Rattle.std.specs.Prelude.{◌≡◌, ◌≢◌, ◌↔◌, ◌⊎◌, ◌∷◌, [], ◌+◌, None, length};
 ghost use Rattle.ace_event.specs.declared.header.Header.{Header};
 ghost use Rattle.ace_event.specs.Ports.{IsHeader};
 ghost use Rattle.ace_model.specs.Trace.{Trace};
@@ -43,7 +43,8 @@ pub extern "C" fn ace_open(
 ) -> u8
     ensures hears { result ≡ 0
         → IsHeader (given version ports ace) × Hears checker.new (given version ports ace) [] }
-    ensures header { result ≡ 2 → ¬ IsHeader (given version ports ace) }
+    ensures header { (result ≡ 2) ↔ ¬ IsHeader (given version ports ace) }
+    ensures status { (result ≡ 0) ⊎ (result ≡ 2) ⊎ (result ≡ 4) }
     ensures closed { result ≢ 0 → session_of checker.new ≡ None }
 {
     ace_close(alloc, checker);
@@ -62,9 +63,9 @@ pub extern "C" fn ace_open(
     }
 }
 
-/// Looks at the next event of the trace. The status is 0 where it breaks no rule, and neither did one
-/// before: then the trace so far is sound. The first that isn't 0 is the status for good. It is 6
-/// where the handle is closed.
+/// Looks at the next event of the trace. The status is 0 where it breaks no rule, and neither did
+/// one before: then the trace so far is sound. The first that isn't 0 is the status for good. It is
+/// 6 where the handle is closed.
 #[unsafe(no_mangle)]
 pub extern "C" fn ace_feed(alloc: Global, checker: &mut AceChecker, event: &AceEvent) -> u8
     ensures fine { (h : Header) (past : Trace) → Hears checker.old h past → result ≡ 0
@@ -73,7 +74,8 @@ pub extern "C" fn ace_feed(alloc: Global, checker: &mut AceChecker, event: &AceE
     ensures ends { (h : Header) (past : Trace) → Hears checker.old h past → result ≢ 0
         → (ending : Ending) × HasEnded checker.new h past ending
         × IsEnding h past (event_of event.now) ending × (result ≡ status_of ending) }
-    ensures ended { (h : Header) (past : Trace) (ending : Ending) → HasEnded checker.old h past ending
+    ensures ended { (h : Header) (past : Trace) (ending : Ending)
+        → HasEnded checker.old h past ending
         → (result ≡ status_of ending) × HasEnded checker.new h past ending }
     ensures closed { session_of checker.old ≡ None
         → (result ≡ 6) × (session_of checker.new ≡ None) }
@@ -98,7 +100,8 @@ pub extern "C" fn ace_feed_many(
 ) -> usize
     ensures fed { (h : Header) (past : Trace) → Hears checker.old h past
         → HasFed checker.new h past events.now result }
-    ensures ended { (h : Header) (past : Trace) (ending : Ending) → HasEnded checker.old h past ending
+    ensures ended { (h : Header) (past : Trace) (ending : Ending)
+        → HasEnded checker.old h past ending
         → (result ≡ 0) × HasEnded checker.new h past ending }
     ensures closed { session_of checker.old ≡ None
         → (result ≡ 0) × (session_of checker.new ≡ None) }
@@ -118,7 +121,8 @@ pub extern "C" fn ace_feed_many(
 pub extern "C" fn ace_verdict(alloc: Global, checker: &mut AceChecker) -> AceAnswer
     ensures fine { (h : Header) (past : Trace) → Hears checker.old h past
         → (result ≡ fine (length past)) × Hears checker.new h past × IsSound h past }
-    ensures ended { (h : Header) (past : Trace) (ending : Ending) → HasEnded checker.old h past ending
+    ensures ended { (h : Header) (past : Trace) (ending : Ending)
+        → HasEnded checker.old h past ending
         → (result ≡ answer_of ending (length past + 1)) × HasEnded checker.new h past ending }
     ensures closed { session_of checker.old ≡ None
         → (result ≡ not_open) × (session_of checker.new ≡ None) }

@@ -1,5 +1,5 @@
 // A checker with how it has ended.
-ghost use Rattle.std.specs.Prelude.{◌≡◌, ◌≢◌, ◌∷◌, [], ◌+◌, true, false, Option, None, Some, IfNone, IfSome, length};
+ghost use Rattle.std.specs.Prelude.{◌≡◌, ◌≢◌, ◌∷◌, [], ◌+◌, Option, None, Some, IfNone, IfSome, length};
 ghost use Rattle.ace_event.specs.declared.header.Header.{Header};
 ghost use Rattle.ace_event.specs.Ports.{IsHeader};
 ghost use Rattle.ace_event.specs.Range.{InRange};
@@ -8,7 +8,7 @@ ghost use Rattle.ace_model.specs.Trace.{Trace};
 ghost use Rattle.ace_check.specs.Run.{Stands, IsSound};
 ghost use Rattle.ace_c.specs.declared.answer.Ending.{Ending};
 ghost use Rattle.ace_c.specs.Answers.{status_of, answer_of, fine};
-ghost use Rattle.ace_c.specs.Records.{event_as, event_of};
+ghost use Rattle.ace_c.specs.Records.{event_of};
 ghost use Rattle.ace_c.specs.Sessions.{Hears, HasEnded, HasFed, IsEnding, EndsAt, IsEventThat, ending_as};
 
 use crate::answer::{AceAnswer, Ending, answer_of, fine, status_of};
@@ -91,26 +91,48 @@ impl Session {
         status_of(ending)
     }
 
-    /// Looks at the next event of a session that no event has ended: what ends it, if anything does.
+    /// Looks at the next event of a session that no event has ended: what ends it, if anything
+    /// does. Each kind has an arm, so that what is done is compiled for that kind alone.
     #[inline(always)]
     fn ending_at(&mut self, given: &AceEvent) -> Option<Ending>
         ensures fine { (h : Header) (past : Trace) → Hears self.old h past
-            → IfNone result (IsEventThat h (event_of given.now) (λ e. Hears self.new h (e ∷ past))) }
+            → IfNone result
+            (IsEventThat h (event_of given.now) (λ e. Hears self.new h (e ∷ past))) }
         ensures ends { (h : Header) (past : Trace) → Hears self.old h past
             → IfSome result (λ ending. IsEnding h past (event_of given.now) ending
             × ((b : Option Break) × Stands self.new.checker h past b)) }
     {
-        self.ending_as(given.kind, given)
+        match given.kind {
+            0 => self.ending_as(0, given),
+            1 => self.ending_as(1, given),
+            2 => self.ending_as(2, given),
+            3 => self.ending_as(3, given),
+            4 => self.ending_as(4, given),
+            5 => self.ending_as(5, given),
+            6 => self.ending_as(6, given),
+            7 => self.ending_as(7, given),
+            8 => self.ending_as(8, given),
+            9 => self.ending_as(9, given),
+            10 => self.ending_as(10, given),
+            11 => self.ending_as(11, given),
+            12 => self.ending_as(12, given),
+            13 => self.ending_as(13, given),
+            14 => self.ending_as(14, given),
+            15 => self.ending_as(15, given),
+            16 => self.ending_as(16, given),
+            kind => self.ending_as(kind, given),
+        }
     }
 
-    /// The same, where the record is taken as one of this kind.
+    /// The same, of a record of this kind.
     #[inline(always)]
     fn ending_as(&mut self, kind: u8, given: &AceEvent) -> Option<Ending>
+        requires { given.now.kind ≡ kind }
         ensures fine { (h : Header) (past : Trace) → Hears self.old h past
             → IfNone result
-            (IsEventThat h (event_as kind given.now) (λ e. Hears self.new h (e ∷ past))) }
+            (IsEventThat h (event_of given.now) (λ e. Hears self.new h (e ∷ past))) }
         ensures ends { (h : Header) (past : Trace) → Hears self.old h past
-            → IfSome result (λ ending. IsEnding h past (event_as kind given.now) ending
+            → IfSome result (λ ending. IsEnding h past (event_of given.now) ending
             × ((b : Option Break) × Stands self.new.checker h past b)) }
     {
         match event_as(kind, given) {
