@@ -117,6 +117,8 @@ CASES = [
     Case((2, 3), 'A', [ar(0, UNIQUE), grant(0)] + data(0), ['RK 0 UC', load(0)], [], 0, 1, 'K30'),
     Case((2, 3), 'A', UPGRADE + [r(0)], ['RK 0 UC', store(0)], [], 0, 1, 'K32'),
     Case((2, 3), 'A', DIRTY + [aw(0, 2)] + w(0, ONES) + [memory(0, 'W', LINE_ONES), 'B 0 0 0'], ['WK 0 UC', store(0)], [], 0, 1, 'K32'),
+    Case((2, 3), 'A', [ar(0, MAKE_UNIQUE), grant(0), r(0), store(0)], ['RK 0 UD', store(0, LINE_ONES)], [], 0, 1, 'K32'),
+    Case((4, 4), 'A', [barrier('W', 0)], [aw(0, 0), barrier('R', 0)], [grant(0, 'W')], 0, 1, 'K35'),
     Case((2, 4), 'A', [ar(0, UNIQUE), grant(0)] + data(0), ['RK 0 UC', ar(0, UNIQUE, B)], [], 0, 1, 'K4'),
     Case((2, 4), 'A', WRITE_BACK + w(0, ONES) + [memory(0, 'W', LINE_ONES), 'B 0 0 0'], ['WK 0 I', ar(0, UNIQUE)], [], 0, 1, 'K5'),
     Case((2, 13), 'AA', [ar(0, UNIQUE), ar(1, UNIQUE), grant(0)] + data(0), ['RK 0 UC', grant(1)], [f'AC 0 {A} 7', 'CR 0 00 I'],

@@ -1,7 +1,7 @@
 -- What is kept of all lines, after an event and after room was made.
 use Rattle.std.proofs.Common.{rules, ◌≡◌, ◌⊎◌, ◌+◌, ◌%◌, ℕ, nat_eq, true, false, Bool, not, ◌&&◌, if◌then◌else◌, List, [], ◌∷◌, length, Option, Some, None, option_map, IsSome, refl, sym, ap, subst, ◌∙◌, inl, inr, unwrap_or, arith}
 use Rattle.std.proofs.lemmas.Bool.{cases_eq}
-use Rattle.ace_lineck.proofs.Terms.{OnTrue, Use, add_line, copy_of, ended, issued, memory_of, newest_use, sent_on, state_of, All, lookup, get, known_lines, I, IsHeader, Transaction, Event, Header, Trace, IsAccepted, granted, is_some_and, least_broken, Recording, after, line_in, Target, LineCheck, LineRecord, Holder, Grant, Unknown, MemoryStands, holder_at, GrantStands, StatesStand, state_at, use_of, is_unknown, LineStands, IsRecordStep, IsFresh, name_of, Stands, IsEmpty, IsAbsent, IsNewLine, HasRecord, MayApply, begins_line, place_on, record_of}
+use Rattle.ace_lineck.proofs.Terms.{AreRoomFor, OnTrue, Use, add_line, copy_of, ended, issued, memory_of, newest_use, sent_on, state_of, lookup, get, known_lines, I, IsHeader, Transaction, Event, Header, Trace, IsAccepted, granted, is_some_and, least_broken, Recording, after, line_in, Target, LineCheck, LineRecord, Holder, Grant, Unknown, MemoryStands, holder_at, GrantStands, StatesStand, state_at, use_of, is_unknown, LineStands, IsRecordStep, IsFresh, name_of, Stands, IsEmpty, IsAbsent, IsNewLine, HasRecord, MayApply, begins_line, place_on, record_of}
 use Rattle.indexmap.specs.IndexMap as map
 use Rattle.ace_lineck.proofs.Places.{get-none}
 use Rattle.ace_lineck.proofs.OnLine.{IsOff}
@@ -57,7 +57,7 @@ fresh-empty x f = record { used = f.used; states = f.states; memory = f.memory; 
 
 -- what is kept of no line is what there is of all lines after no event
 pub begins : (s : LineCheck) (h : Header) → s.header ≡ h → IsHeader h → IsFresh 0 s.empty → map.IsEmpty s.lines → s.known ≡ 0
-    → All (IsFresh h.ports) s.spare.items → Stands s (record { header = h; past = [] })
+    → AreRoomFor h.ports s.spare.items → Stands s (record { header = h; past = [] })
 begins s h same is f clear known spare = record {
   header = same;
   ports = is;
@@ -95,7 +95,7 @@ pub record IsChanged (s t : LineCheck) (line : ℕ) (x : LineRecord) : Type 0 wh
 -- what is kept of the new record and of the others is what there is of their lines after a longer trace
 replaced : (s t : LineCheck) (h : Header) (past longer : Trace) (line : ℕ) (x : LineRecord) → IsChanged s t line x → Stands s (record { header = h; past = past }) → IsAccepted h longer
     → LineStands h longer line x → ((l : ℕ) → (l ≡ line → ⊥) → LineStands h longer l (record_of s l)) → length x.holders.items ≡ h.ports → t.known ≡ length (known_lines longer)
-    → All (IsFresh h.ports) t.spare.items → Stands t (record { header = h; past = longer })
+    → AreRoomFor h.ports t.spare.items → Stands t (record { header = h; past = longer })
 replaced s t h past longer line x c st a new others room known spare = record {
   header = c.header ∙ st.header;
   ports = st.ports;
@@ -124,7 +124,7 @@ replaced s t h past longer line x c st a new others room known spare = record {
 
 changed : (s t : LineCheck) (r : Recording) (e : Event) (line : ℕ) (x : LineRecord) → IsChanged s t line x → Stands s r → least_broken r.header r.past e ≡ None
     → line_in r.header r.past e ≡ Some line → LineStands r.header (e ∷ r.past) line x → length x.holders.items ≡ r.header.ports → t.known ≡ length (known_lines (e ∷ r.past))
-    → All (IsFresh r.header.ports) t.spare.items → Stands t (after r e)
+    → AreRoomFor r.header.ports t.spare.items → Stands t (after r e)
 changed s t r e line x c st fine on new =
     replaced s t r.header r.past (e ∷ r.past) line x c st (st.accepted, fine) new
     (λ l off. line-stays r.header r.past e (st.accepted, fine) l (record_of s l) (λ q. off (Some-injective l line (sym q ∙ on))) (st.lines l))
@@ -180,11 +180,11 @@ fresh-stands h past l x y e f s = record {
     same p = f.holders p ∙ ap (λ v. holder_at v p) (sym e.holders)
 
 pub made : (s t : LineCheck) (r : Recording) (line : ℕ) (x : LineRecord) → IsChanged s t line x → get nat_eq s.lines line ≡ None → t.known ≡ s.known → IsFresh s.header.ports x
-    → All (IsFresh s.header.ports) t.spare.items → Stands s r → Stands t r
+    → AreRoomFor s.header.ports t.spare.items → Stands s r → Stands t r
 made s t r line x c none known f spare st =
     replaced s t r.header r.past r.past line x c st st.accepted
     (fresh-stands r.header r.past line s.empty x st.empty fresh (subst (LineStands r.header r.past line) (ap (λ v. unwrap_or v s.empty) none) (st.lines line)))
-    (λ l off. st.lines l) fresh.count (known ∙ st.known) (subst (λ (v : Header). All (IsFresh v.ports) t.spare.items) st.header spare)
+    (λ l off. st.lines l) fresh.count (known ∙ st.known) (subst (λ (v : Header). AreRoomFor v.ports t.spare.items) st.header spare)
   where
     fresh : IsFresh r.header.ports x
     fresh = subst (λ (v : Header). IsFresh v.ports x) st.header f
@@ -256,7 +256,7 @@ counts s r e t place m l line x y old new =
 -- it counts its line where that becomes known
 pub applied : (s t : LineCheck) (r : Recording) (e : Event) (g : Target) (place : Option ℕ) → MayApply s r e g place → (l : ℕ) → g.line ≡ Some l → (x y : LineRecord) → IsRecordStep r.header r.past l e g x
     → LineStands r.header (e ∷ r.past) l y → length y.holders.items ≡ length x.holders.items → (b : Bool) → (is_unknown x.used && not (is_unknown y.used)) ≡ b → IsChanged s t l y
-    → t.known ≡ (if b then (s.known + 1) % 18446744073709551616 else s.known) → All (IsFresh r.header.ports) t.spare.items → Stands t (after r e)
+    → t.known ≡ (if b then (s.known + 1) % 18446744073709551616 else s.known) → AreRoomFor r.header.ports t.spare.items → Stands t (after r e)
 applied s t r e g place m l line x y step new room b grows c known spare =
     changed s t r e l y c m.stands m.kept (ap (λ (v : Target). v.line) (sym m.target) ∙ line) new (room ∙ step.room) (known ∙ by b (rw grows at (counts s r e g place m l line x y step.stands new))) spare
   where

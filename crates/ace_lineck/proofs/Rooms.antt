@@ -1,6 +1,6 @@
 -- What leaves the room that there is for lines.
 use Rattle.std.proofs.Common.{◌≡◌, ℕ, zero, suc, ◌+◌, ◌≤◌, ◌<◌, nat_eq, ◌∷◌, length, is_some, unwrap_or, refl, sym, ap, subst, ◌∙◌, arith}
-use Rattle.ace_lineck.proofs.Terms.{All, IsDistinct, list_any, lookup, get, index_map_len, keys, spare, with_value_at, Event, Trace, HasRoomForLines, Recording, LineCheck, LineRecord, IsFresh, LineStands, Stands, IsEmpty, IsRoomy, record_of}
+use Rattle.ace_lineck.proofs.Terms.{AreRoomFor, IsDistinct, list_any, lookup, get, index_map_len, keys, spare, with_value_at, Event, Trace, HasRoomForLines, Recording, LineCheck, LineRecord, LineStands, Stands, IsEmpty, IsRoomy, record_of}
 use Rattle.std.proofs.lemmas.Map.Made.{is_some-lookup}
 use Rattle.indexmap.proofs.CallerLemmas.{keys-with_value_at, index_map_len-with_value_at}
 use Rattle.ace_portck.proofs.LineMaps.{room-same, room-stays}
@@ -24,7 +24,7 @@ written-fits s t i y written kept lines past room =
 pub grown-roomy : (lines : ℕ) (past : Trace) (e : Event) (s : LineCheck) → IsRoomy lines past s → IsRoomy lines (e ∷ past) s
 grown-roomy lines past e s room = record { map = room-stays lines e past s.lines room.map; records = room.records }
 
--- a spare record is taken, or there was none; and no record is put into the map, which has the same room
+-- spare room is taken, or there was none; and no record is put into the map, which has the same room
 pub spent-roomy : (lines : ℕ) (past : Trace) (s t : LineCheck) → IsRoomy lines past s → t.lines.entries ≡ s.lines.entries → IsDistinct nat_eq (keys t.lines)
     → spare s.lines ≤ spare t.lines → lines ≤ index_map_len s.lines + length t.spare.items → IsRoomy lines past t
 spent-roomy lines past s t room same unique left records =
@@ -34,9 +34,9 @@ spent-roomy lines past s t room same unique left records =
       records = omega (arith, records, len);
     }
 
--- other spare records, all fresh
+-- other spare room, for each port of the header
 pub respared : (s t : LineCheck) (r : Recording) → t.header ≡ s.header → t.empty ≡ s.empty → t.known ≡ s.known → t.lines.entries ≡ s.lines.entries
-    → All (IsFresh r.header.ports) t.spare.items → Stands s r → Stands t r
+    → AreRoomFor r.header.ports t.spare.items → Stands s r → Stands t r
 respared s t r header empty known same spare st = record {
   header = header ∙ st.header;
   ports = st.ports;

@@ -65,7 +65,7 @@ pub use Rattle.ace_lineck.specs.Grants.{GrantFits, GrantStands, IsGrantStep, IsM
 pub use Rattle.ace_lineck.specs.Holders.{HasNothing, HolderStands, HoldersStand, IsHolderStep, IsHoldersStep, IsLineStep, MemoryStands, empty_holder, holder_at, sends_line, sent_on}
 pub use Rattle.ace_lineck.specs.Kept.{are_done, fits_bits, fits_data, fits_reply, fits_shared, has_passed, has_passed_for, is_done_at, is_its, is_passed_whole, is_sending, is_settled, is_shared_under, is_unsnooped, may_be_snooped, may_have_beat, passed_kept, reply_kept, takes_data, written_kept}
 pub use Rattle.ace_lineck.specs.MemoryRules.{may_write, may_write_burst, rule_of_write}
-pub use Rattle.ace_lineck.specs.Records.{IsFresh, IsRecordStep, LineStands, has_three, name_of}
+pub use Rattle.ace_lineck.specs.Records.{AreRoomFor, IsFresh, IsRecordStep, LineStands, has_three, name_of}
 pub use Rattle.ace_lineck.specs.Snoops.{HearsSnoop}
 pub use Rattle.ace_lineck.specs.Stands.{BeginsLine, HasRecord, IsAbsent, IsEmpty, IsNewLine, IsRoomy, MayApply, Stands, begins_line, place_on, record_of, record_on}
 pub use Rattle.ace_lineck.specs.States.{IsInState, IsStatesStep, StatesStand, state_at}

@@ -1,5 +1,6 @@
 -- What is kept of a line says what there is to say of it after a trace.
-use Rattle.std.specs.Prelude.{ℕ, ◌≡◌, ◌==◌, ◌&&◌, Bool, length, replicate, Option, None}
+use Rattle.std.specs.Prelude.{ℕ, ◌≡◌, ◌==◌, ◌&&◌, Bool, length, replicate, List, Option, None}
+use Rattle.std.specs.List.{All}
 use Rattle.ace_codes.specs.declared.state.LineState.TheVariants.{I}
 use Rattle.ace_event.specs.declared.event.Channel.{Channel}
 use Rattle.ace_event.specs.declared.event.Event.{Event}
@@ -39,6 +40,10 @@ pub record IsFresh (ports : ℕ) (x : LineRecord) : Type 0 where
   pub grant : x.grant ≡ None
   pub count : length x.holders.items ≡ ports
   pub holders : (p : ℕ) → holder_at x.holders.items p ≡ empty_holder
+
+-- each of them is room for what so many ports have of a line
+abbrev pub AreRoomFor : ℕ → List ℕ → Type 0
+AreRoomFor ports rooms = All (λ n. n ≡ ports) rooms
 
 -- a read of a line that has had three of its four beats
 abbrev pub has_three : Option Progress → Bool

@@ -1,7 +1,6 @@
 -- What is kept of all lines says what there is to say of them after a recording.
 use Rattle.std.specs.Prelude.{ℕ, ◌≡◌, ◌<◌, ◌≤◌, ◌+◌, ◌-◌, ◌^◌, Bool, true, false, [], length, replicate, Option, Some, None, nat_eq, unwrap_or, IsSome, ⊤}
 use Rattle.std.specs.Bool.{OnTrue}
-use Rattle.std.specs.List.{All}
 use Rattle.indexmap.specs.IndexMap.{get, index_of, index_map_len}
 use Rattle.ace_codes.specs.declared.state.LineState.TheVariants.{I}
 use Rattle.ace_event.specs.declared.event.Event.{Event}
@@ -17,7 +16,7 @@ use Rattle.ace_portck.specs.Target.{Target}
 use Rattle.ace_lineck.specs.declared.record.Use.TheVariants.{Unknown}
 use Rattle.ace_lineck.specs.declared.record.LineRecord.{LineRecord}
 use Rattle.ace_lineck.specs.declared.lines.LineCheck.{LineCheck}
-use Rattle.ace_lineck.specs.Records.{LineStands, IsFresh}
+use Rattle.ace_lineck.specs.Records.{AreRoomFor, LineStands}
 
 -- the record of the line: that of the map, or else the one of a line of which nothing is kept
 abbrev pub record_of : LineCheck → ℕ → LineRecord
@@ -52,7 +51,7 @@ pub record Stands (s : LineCheck) (r : Recording) : Type 0 where
   pub holders : (l : ℕ) (x : LineRecord) → get nat_eq s.lines l ≡ Some x
       → length x.holders.items ≡ r.header.ports
   pub known : s.known ≡ length (known_lines r.past)
-  pub spare : All (IsFresh r.header.ports) s.spare.items
+  pub spare : AreRoomFor r.header.ports s.spare.items
 
 -- there is a record of the line, if there is a line
 abbrev pub HasRecord : LineCheck → Option ℕ → Type 0

@@ -16,6 +16,7 @@ mod opening_memory;
 mod read_data;
 mod record;
 mod replies;
+mod room;
 mod silent_changes;
 mod snoop_answers;
 mod snoop_data;

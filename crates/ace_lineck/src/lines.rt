@@ -1,7 +1,8 @@
 //! The records of all lines.
 
 use crate::hints::Hints;
-use crate::record::{LineRecord, empty_record, new_records, take_record};
+use crate::record::{LineRecord, empty_record};
+use crate::room::{Room, rooms, take_record};
 use ace_event::{Channel, Header, Line};
 use ace_io::NoMemory;
 use indexmap::IndexMap;
@@ -18,8 +19,8 @@ pub struct LineCheck {
     pub(crate) known: usize,
     /// What is kept of every other line.
     empty: LineRecord,
-    /// Records of lines to come.
-    spare: Vec<LineRecord>,
+    /// Room for lines to come.
+    spare: Vec<Room>,
     /// Where the record of a line may stand.
     hints: Hints,
 }
@@ -60,7 +61,7 @@ impl LineCheck {
         let Ok(records) = IndexMap::with_capacity(alloc, lines) else {
             return Err(NoMemory);
         };
-        let spare = new_records(alloc, header.ports, lines)?;
+        let spare = rooms(alloc, header.ports, lines)?;
         Ok(LineCheck {
             header,
             alloc,

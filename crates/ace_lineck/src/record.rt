@@ -1,7 +1,6 @@
 //! What is kept of a line.
 
-ghost use Rattle.std.specs.Prelude.{◌≡◌, ◌+◌, ◌<◌, ◌≤◌, length, IfOk, IsOk, option_map};
-ghost use Rattle.std.specs.List.{All};
+ghost use Rattle.std.specs.Prelude.{◌≡◌, ℕ, option_map};
 ghost use Rattle.ace_model.specs.Copies.{word_of};
 ghost use Rattle.ace_model.specs.Trace.{is_some_and};
 ghost use Rattle.ace_lineck.specs.Holders.{holder_at, HasNothing};
@@ -13,7 +12,6 @@ use crate::grant::Grant;
 use crate::states::state_at;
 use ace_codes::LineState;
 use ace_event::{Channel, Line};
-use ace_io::NoMemory;
 use std::alloc::Global;
 
 /// How the transactions of a line use it.
@@ -53,72 +51,24 @@ pub struct LineRecord {
 
 const ZERO_LINE: Line = Line { words: [0; 4] };
 
-/// Of so many ports, that they have had nothing of a line's data.
-fn no_holders(alloc: Global, ports: u8) -> Result<Vec<Holder>, NoMemory>
-    ensures { IfOk result (λ v. HasNothing ports v.items) }
-{
-    let Ok(mut holders) = Vec::with_capacity(alloc, usize::from(ports)) else {
-        return Err(NoMemory);
+impl Holder {
+    /// Of a port that has had nothing of the line.
+    pub const NOTHING: Holder = Holder {
+        copy: ZERO_LINE,
+        sent: ZERO_LINE,
     };
-    for port in 0..ports {
-        let nothing = Holder {
-            copy: ZERO_LINE,
-            sent: ZERO_LINE,
-        };
-        if holders.push(nothing).is_err() {
-            return Err(NoMemory);
-        }
-    }
-    Ok(holders)
 }
 
-/// What is kept of a line at first, for so many ports.
-pub fn new_record(alloc: Global, ports: u8) -> Result<LineRecord, NoMemory>
-    ensures { IfOk result (IsFresh ports) }
+/// What is kept of a line at first, where the ports have had nothing of it.
+pub fn first_record(holders: Vec<Holder>) -> LineRecord
+    ensures { (ports : ℕ) → HasNothing ports holders.items → IsFresh ports result }
 {
-    let Ok(holders) = no_holders(alloc, ports) else {
-        return Err(NoMemory);
-    };
-    Ok(LineRecord {
+    LineRecord {
         used: Use::Unknown,
         states: [LineState::I; 32],
         grant: None,
         memory: ZERO_LINE,
         holders,
-    })
-}
-
-/// So many of them, of lines that are to come.
-pub fn new_records(alloc: Global, ports: u8, count: usize) -> Result<Vec<LineRecord>, NoMemory>
-    ensures count { IfOk result (λ v. length v.items ≡ count) }
-    ensures fresh { IfOk result (λ v. All (IsFresh ports) v.items) }
-{
-    let Ok(mut records) = Vec::with_capacity(alloc, count) else {
-        return Err(NoMemory);
-    };
-    for _line in 0..count {
-        let kept = new_record(alloc, ports)?;
-        if records.push(kept).is_err() {
-            return Err(NoMemory);
-        }
-    }
-    Ok(records)
-}
-
-/// One of the spare ones or, where there is none, a new one.
-pub fn take_record(
-    spare: &mut Vec<LineRecord>,
-    alloc: Global,
-    ports: u8,
-) -> Result<LineRecord, NoMemory>
-    ensures fresh { All (IsFresh ports) spare.old.items → IfOk result (IsFresh ports) }
-    ensures rest { All (IsFresh ports) spare.old.items → All (IsFresh ports) spare.new.items }
-    ensures count { length spare.old.items ≤ length spare.new.items + 1 }
-    ensures succeeds { 0 < length spare.old.items → IsOk result }
-{
-    match spare.pop() {
-        Some(kept) => Ok(kept),
-        None => new_record(alloc, ports),
     }
 }
 
@@ -126,13 +76,7 @@ pub fn take_record(
 pub fn empty_record(alloc: Global) -> LineRecord
     ensures { IsFresh 0 result }
 {
-    LineRecord {
-        used: Use::Unknown,
-        states: [LineState::I; 32],
-        grant: None,
-        memory: ZERO_LINE,
-        holders: Vec::new(alloc),
-    }
+    first_record(Vec::new(alloc))
 }
 
 /// Word k of the line, from 0; 0 where k is above 3.

@@ -23,7 +23,7 @@ use ace_codes::{LineState, SnoopKind, read_ac, transfers_data};
 use ace_engine::Burst;
 use ace_event::{Event, Line};
 use ace_master_state::Cached;
-use ace_model::kinds::updates_memory;
+use ace_model::kinds::{is_line_snoop, updates_memory};
 use ace_policy::Policy;
 use ace_portck::OnePort;
 use ace_tables::{Row, snoop_rows};
@@ -63,20 +63,21 @@ fn oldest_snoop(port: &OnePort, cached: &Cached) -> Option<Asked>
     })
 }
 
-/// The row by which the snoop is answered, where there is one: that of a DVM snoop, or the one that the policy picks.
+/// The row by which the snoop is answered, where there is one: that of a DVM snoop, or the one that
+/// the policy picks. A snoop of a line has one unless a memory update of the line is outstanding.
 fn row_for<P: Policy>(policy: &mut P, asked: &Asked) -> Option<Row>
     ensures none { result ≡ None → can_answer asked.now ≡ false }
     ensures row { (r : Row) → result ≡ Some r → IsRowFor (P.rows policy.old) asked.now r }
     ensures same_rows { (k : SnoopKind) (st : LineState) (u : Bool) → P.rows policy.new k st u ≡ P.rows policy.old k st u }
     ensures unchanged { result ≡ None → policy.new ≡ policy.old }
 {
-    if matches!(asked.kind, SnoopKind::DvmComplete | SnoopKind::DvmMessage) {
+    if !is_line_snoop(asked.kind) {
         return Some(Row {
             resp: 0,
             next: LineState::I,
         });
     }
-    if snoop_rows(asked.kind, asked.held, asked.update).count() == 0 {
+    if asked.update && snoop_rows(asked.kind, asked.held, true).count() == 0 {
         return None;
     }
     Some(policy.pick(asked.kind, asked.held, asked.update))

@@ -38,3 +38,5 @@ pub mod NoneFound
 pub mod Retirements
 -- Which events end an operation, case by case.
 pub mod Closings
+-- What an event of another port leaves of all that.
+pub mod Elsewhere

@@ -6,13 +6,14 @@ ghost use Rattle.ace_model.specs.Trace.{Trace, port_of};
 ghost use Rattle.ace_model.specs.Transactions.{is_ace};
 ghost use Rattle.ace_engine.specs.Engines.{IsLegal};
 ghost use Rattle.ace_master_state.specs.Cached.{HasLowId};
-ghost use Rattle.ace_master_state.specs.Kept.{KeptStands};
+ghost use Rattle.ace_master_state.specs.Kept.{KeptStands, RestStands};
 
 use crate::{Cached, Completions, Monitor, Segment, Syncs};
 use ace_event::Event;
+use ace_event::laws::every_event_fits;
 use ace_io::NoMemory;
 use ace_model::{MOST_SNOOPS, PlanView};
-use ace_portck::OnePort;
+use ace_portck::{OnePort, is_at};
 use std::alloc::Global;
 
 /// What the master of an ACE port keeps of the trace of a run.
@@ -57,17 +58,32 @@ impl Kept {
         })
     }
 
-    /// Hears the next event of the trace.
-    pub fn hear(&mut self, event: &Event)
-        ensures { (plan : Plan) (past : Trace) (p : ℕ) → KeptStands plan past p self.old → IsLegal plan (event.now ∷ past)
-            → (port_of event.now ≡ Some p → HasLowId event.now) → KeptStands plan (event.now ∷ past) p self.new }
+    /// What is kept beside its transactions and snoops hears the next event of the trace. Of that
+    /// an event of another port says nothing.
+    fn note(&mut self, event: &Event)
+        ensures rest { (plan : Plan) (past : Trace) (p : ℕ) → KeptStands plan past p self.old
+            → IsLegal plan (event.now ∷ past) → (port_of event.now ≡ Some p → HasLowId event.now)
+            → RestStands plan (event.now ∷ past) p self.new }
+        ensures port { self.new.port ≡ self.old.port }
     {
+        every_event_fits(*event);
+        if !is_at(event, self.port.port()) {
+            return;
+        }
         let place = self.port.count();
         self.lines.hear(&self.port, event);
         self.monitor.hear(event, &self.lines);
         self.segment.hear(event, place);
         self.completions.hear(&self.port, event);
         self.syncs.hear(&self.port, event);
+    }
+
+    /// Hears the next event of the trace.
+    pub fn hear(&mut self, event: &Event)
+        ensures { (plan : Plan) (past : Trace) (p : ℕ) → KeptStands plan past p self.old → IsLegal plan (event.now ∷ past)
+            → (port_of event.now ≡ Some p → HasLowId event.now) → KeptStands plan (event.now ∷ past) p self.new }
+    {
+        self.note(event);
         self.port.hear(event);
     }
 }

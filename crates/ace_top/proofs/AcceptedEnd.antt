@@ -6,7 +6,8 @@ use Rattle.ace_top.specs.declared.answer.Answer.{Answer}
 use Rattle.ace_top.specs.declared.answer.Answer.TheVariants.{Accepted, Refused, Shown, Reported, Generated, Ran, Tried, Usage, Malformed, ReadFault, LimitEvents, LimitLines, NoMemory}
 use Rattle.ace_top.specs.declared.words.Command.TheVariants.{Check}
 use Rattle.ace_top.specs.Answer.{Answers, BreaksOff}
-use Rattle.ace_top.specs.Output.{AppendsPart, AppendsParts}
+use Rattle.ace_convert.specs.Output.{AppendsPart}
+use Rattle.ace_top.specs.Output.{AppendsParts}
 use Rattle.ace_top.specs.Progress.{EndsInput, IsRefusal, IsVerdictAnswer}
 use Rattle.ace_top.specs.Texts.{status_of, out_text_of, notes_text_of}
 use Rattle.ace_top.specs.Verdict.{IsVerdict, ReadsSound}

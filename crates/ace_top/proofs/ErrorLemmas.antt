@@ -5,7 +5,6 @@ use Rattle.ace_grammar.specs.declared.error.ReadErr.TheVariants as error
 use Rattle.ace_grammar.specs.Errors.{HasNoHeader, StandsNext, HasFaultCause}
 use Rattle.ace_top.specs.declared.answer.Answer.{Answer}
 use Rattle.ace_top.specs.declared.answer.Answer.TheVariants.{Refused, LimitLines, NoMemory}
-use Rattle.ace_top.specs.Copy.{EndsCopy}
 use Rattle.ace_top.specs.ErrorAnswer.{error_answer}
 use Rattle.ace_top.specs.Progress.{IsRefusal, IsStop, HasReadCause}
 use Rattle.ace_top.specs.Verdict.{IsVerdict}
@@ -25,13 +24,6 @@ stop_refusal answer s = absurd s
 
 pub stop_cause : (before now : ℕ) (answer : Answer) → IsStop answer → now ≡ before → HasReadCause before now answer
 stop_cause before now answer s same = record { failed = λ is. absurd (subst IsStop is s); steady = λ not. same }
-
--- it ends a copy
-pub error_ends : (version count : ℕ) (old new left : Option (List ℕ)) (e : ReadErr) → StandsNext version (Err e) count old new left → EndsCopy version (error_answer e) count old left
-error_ends version count old new left (error.Malformed line reason) s = (s.2, s.0, s.1)
-error_ends version count old new left error.TooManyEvents s = (s.1, s.0)
-error_ends version count old new left error.ReadFault s = s
-error_ends version count old new left error.NoMemory s = absurd s
 
 -- a count of faults that stays, or rose for a read fault
 pub error_cause : (before now : ℕ) (e : ReadErr) → HasFaultCause (Err e) before now → HasReadCause before now (error_answer e)
@@ -53,4 +45,4 @@ no_header_cause error.TooManyEvents old new before now n = absurd n
 no_header_cause error.ReadFault old new before now n = error_cause before now error.ReadFault n.1
 no_header_cause error.NoMemory old new before now n = error_cause before now error.NoMemory n.1
 
-pub ruleset errors = (error_ends, error_refusal, stop_refusal, stop_cause, error_cause, no_header_verdict, no_header_cause)
+pub ruleset errors = (error_refusal, stop_refusal, stop_cause, error_cause, no_header_verdict, no_header_cause)

@@ -10,7 +10,8 @@ use Rattle.ace_top.specs.declared.answer.Answer.TheVariants.{Generated, NoMemory
 use Rattle.ace_top.specs.declared.words.Command.TheVariants.{Gen}
 use Rattle.ace_top.specs.Answer.{Answers, BreaksOff}
 use Rattle.ace_top.specs.Generate.{script_of}
-use Rattle.ace_top.specs.Output.{AppendsPart, AppendsParts}
+use Rattle.ace_convert.specs.Output.{AppendsPart}
+use Rattle.ace_top.specs.Output.{AppendsParts}
 use Rattle.ace_top.specs.Texts.{status_of, out_text_of, notes_text_of}
 use Rattle.ace_top.proofs.Parts.{both_nothing}
 

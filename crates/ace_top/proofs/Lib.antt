@@ -1,10 +1,10 @@
 pub mod AcceptedEnd
-pub mod CopyLemmas
 pub mod ErrorLemmas
 pub mod Followed
 pub mod Following
 pub mod FrontGiven
 pub mod GenerateLemmas
+pub mod GeneratedRight
 pub mod Handed
 pub mod Hyphens
 pub mod Numbers
@@ -18,8 +18,7 @@ pub mod ReaderEnds
 pub mod ReportLemmas
 pub mod RunLemmas
 pub mod RunTexts
-pub mod ShowLemmas
 pub mod Sound
 pub mod Stops
 pub mod WordsAnswered
-pub mod Written
+pub mod WrittenLemmas

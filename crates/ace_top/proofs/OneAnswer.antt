@@ -2,7 +2,6 @@
 use Rattle.std.proofs.Common.{◌≡◌, ◌≤◌, ℕ, List, [], ◌∷◌, ◌++◌, Option, None, Some, length, reverse, refl, sym, ap, subst, ◌∙◌, inl, inr, Bool, true, false, ◌+◌, arith}
 use Rattle.ace_event.specs.declared.header.Header.{Header}
 use Rattle.ace_event.specs.declared.event.Event.{Event}
-use Rattle.ace_event.specs.Text.{trace_text}
 use Rattle.ace_grammar.specs.declared.reason.Reason.{Reason}
 use Rattle.ace_grammar.specs.Reading.{Ending, Ends, Whole, Full, Bad, Reads, HasBadHeader, most_events}
 use Rattle.ace_grammar.proofs.Readings.EveryReading.{some_reading}
@@ -13,17 +12,23 @@ use Rattle.ace_model.specs.Accepted.{least_broken}
 use Rattle.ace_model.specs.Trace.{newer}
 use Rattle.ace_check.specs.Promises.{goes_over}
 use Rattle.ace_top.specs.declared.answer.Answer.{Answer}
-use Rattle.ace_top.specs.declared.answer.Answer.TheVariants.{Accepted, Refused, Shown, Reported, Generated, Malformed, ReadFault, LimitEvents, LimitLines, NoMemory}
-use Rattle.ace_top.specs.declared.show.Version.{Version}
-use Rattle.ace_top.specs.declared.show.Version.TheVariants.{AsRead, Two}
+use Rattle.ace_top.specs.declared.answer.Answer.TheVariants.{Accepted, Refused, Reported, Generated, Malformed, ReadFault, LimitEvents, LimitLines, NoMemory}
+use Rattle.ace_convert.specs.declared.conversion.Conversion.{Conversion}
+use Rattle.ace_convert.specs.declared.end.TraceEnd.{TraceEnd}
+use Rattle.ace_convert.specs.declared.end.TraceEnd.TheVariants as ends
+use Rattle.ace_convert.specs.Converted.{CanBeRead}
+use Rattle.ace_convert.specs.Ends.{IsDueEnd}
+use Rattle.ace_convert.specs.Spelling.{form_read}
+use Rattle.ace_convert.proofs.OneConversion.{some_conversion, one_conversion}
+use Rattle.ace_top.specs.ErrorAnswer.{end_answer}
+use Rattle.ace_top.specs.Written.{IsWritten}
 use Rattle.ace_top.specs.declared.words.Command.{Command}
-use Rattle.ace_top.specs.declared.words.Command.TheVariants.{Check, Report, Show, Migrate, Run, Gen, Trial}
-use Rattle.ace_top.specs.Answer.{IsAnswer, FitsAnswer, IsDue, IsSettled}
+use Rattle.ace_top.specs.declared.words.Command.TheVariants.{Check, Report, Convert, Run, Gen, Trial}
+use Rattle.ace_top.specs.Answer.{CanBeInput, IsAnswer, FitsAnswer, IsDue, IsSettled}
 use Rattle.ace_top.specs.Generate.{IsGenerated, script_of}
 use Rattle.ace_top.specs.Report.{IsReported}
-use Rattle.ace_top.specs.Show.{IsShown, header_written}
 use Rattle.ace_top.specs.Texts.{out_text_of}
-use Rattle.ace_top.proofs.OneScript.{one_unread, some_unread}
+use Rattle.ace_top.proofs.OneScript.{one_unread, some_ran, some_tried}
 use Rattle.ace_top.specs.Verdict.{IsVerdict, BeginsStopped, Stop, Breaks, GoesOver, stop_of, first_stop, first_stop_after}
 
 -- ---- verdicts
@@ -185,69 +190,37 @@ some_told bytes answer d v = absurd v
 
 -- ---- traces that are written
 
--- the answer where a trace that ends so is written
-abbrev pub written_of : Ending → Answer
-written_of Whole = Shown
-written_of Full = LimitEvents
-written_of (Bad line reason) = Malformed line reason
+-- the answer is due where the end of the reading is
+due_end : (end : TraceEnd) → IsDue (end_answer end) → IsDueEnd end
+due_end ends.Whole d = tt
+due_end (ends.BadLine line reason) d = tt
+due_end (ends.BadRecord byte reason) d = tt
+due_end ends.Full d = tt
+due_end ends.ReadFault d = d
+due_end ends.NoMemory d = d
 
-shows : (version : Version) (bytes : List ℕ) (h header : Header) (events es : List Event) (end ending : Ending) (text : List ℕ) → Reads bytes h events end → Reads bytes header es ending
-    → text ≡ trace_text (header_written version header) es → (written_of ending ≡ written_of end) × (text ≡ trace_text (header_written version h) events)
-shows version bytes h header events es end ending text r reads is =
-    let one = one_reading bytes h header events es end ending r reads in
-    (ap written_of (sym one.2), is ∙ ap (λ (g : Header). trace_text (header_written version g) es) (sym one.0) ∙ ap (λ (t : List Event). trace_text (header_written version h) t) (sym one.1))
+end_due : (end : TraceEnd) → IsDueEnd end → IsDue (end_answer end)
+end_due ends.Whole d = tt
+end_due (ends.BadLine line reason) d = tt
+end_due (ends.BadRecord byte reason) d = tt
+end_due ends.Full d = tt
+end_due ends.ReadFault d = d
+end_due ends.NoMemory d = d
 
-pub due_written : (version : Version) (bytes : List ℕ) (left : Option (List ℕ)) (h : Header) (events : List Event) (end : Ending) (answer : Answer) (text : List ℕ)
-    → Reads bytes h events end → IsDue answer → IsShown version bytes left answer text → (answer ≡ written_of end) × (text ≡ trace_text (header_written version h) events)
-due_written version bytes left h events end Shown text r d (header, es, reads, is) = shows version bytes h header events es end Whole text r reads is
-due_written version bytes left h events end (Malformed line reason) text r d (inl (bad, none)) = absurd (no_bad_header bytes h events end line reason r bad)
-due_written version bytes left h events end (Malformed line reason) text r d (inr (header, es, reads, is)) = shows version bytes h header events es end (Bad line reason) text r reads is
-due_written version bytes left h events end LimitEvents text r d (header, es, reads, is) = shows version bytes h header events es end Full text r reads is
-due_written version bytes left h events end ReadFault text r d s = absurd d
-due_written version bytes left h events end NoMemory text r d s = absurd d
-due_written version bytes left h events end answer text r d s = absurd s
+pub written_due : (answer : Answer) (end : TraceEnd) → answer ≡ end_answer end → IsDue answer → IsDueEnd end
+written_due answer end is d = due_end end (subst IsDue is d)
 
-written_without_header : (version : Version) (bytes : List ℕ) (left : Option (List ℕ)) (number : ℕ) (reason : Reason) (answer : Answer) (text : List ℕ)
-    → HasBadHeader bytes number reason → IsDue answer → IsShown version bytes left answer text → (answer ≡ Malformed number reason) × (text ≡ [])
-written_without_header version bytes left number reason Shown text bad d (header, es, reads, is) = absurd (no_bad_header bytes header es Whole number reason reads bad)
-written_without_header version bytes left number reason (Malformed line other) text bad d (inl (wrong, none)) =
-    let one = one_bad_header bytes line number other reason wrong bad in
-    ((rw one.0 (rw one.1 refl)), none)
-written_without_header version bytes left number reason (Malformed line other) text bad d (inr (header, es, reads, is)) =
-    absurd (no_bad_header bytes header es (Bad line other) number reason reads bad)
-written_without_header version bytes left number reason LimitEvents text bad d (header, es, reads, is) = absurd (no_bad_header bytes header es Full number reason reads bad)
-written_without_header version bytes left number reason ReadFault text bad d s = absurd d
-written_without_header version bytes left number reason NoMemory text bad d s = absurd d
-written_without_header version bytes left number reason answer text bad d s = absurd s
+pub one_written : (conversion : Conversion) (bytes : List ℕ) (left last : Option (List ℕ)) (answer other : Answer) (text more : List ℕ) → IsDue answer → IsDue other
+    → IsWritten conversion bytes left answer text → IsWritten conversion bytes last other more → (answer ≡ other) × (text ≡ more)
+one_written conversion bytes left last answer other text more d o (end, is, c) (ending, was, k) =
+    let one = one_conversion conversion bytes left last end ending text more (written_due answer end is d) (written_due other ending was o) c k in
+    (is ∙ ap end_answer one.0 ∙ sym was, one.1)
 
-one_written : (version : Version) (bytes : List ℕ) (left last : Option (List ℕ)) (answer other : Answer) (text more : List ℕ) → IsDue answer → IsDue other
-    → IsShown version bytes left answer text → IsShown version bytes last other more → (answer ≡ other) × (text ≡ more)
-one_written version bytes left last answer other text more d o s t =
-    elim (some_reading bytes) [
-      | inl (number, reason, bad) ↦
-          let p = written_without_header version bytes left number reason answer text bad d s in
-          let q = written_without_header version bytes last number reason other more bad o t in
-          (p.0 ∙ sym q.0, p.1 ∙ sym q.1)
-      | inr (header, events, end, r) ↦
-          let p = due_written version bytes left header events end answer text r d s in
-          let q = due_written version bytes last header events end other more r o t in
-          (p.0 ∙ sym q.0, p.1 ∙ sym q.1)
-    ]
-
-read_written : (version : Version) (bytes : List ℕ) (left : Option (List ℕ)) (header : Header) (events : List Event) (end : Ending) → Reads bytes header events end
-    → IsDue (written_of end) × IsShown version bytes left (written_of end) (trace_text (header_written version header) events)
-read_written version bytes left header events Whole r = (tt, (header, events, r, refl))
-read_written version bytes left header events Full r = (tt, (header, events, r, refl))
-read_written version bytes left header events (Bad line reason) r = (tt, inr (header, events, r, refl))
-
-some_written : (version : Version) (bytes : List ℕ) (left : Option (List ℕ)) → (answer : Answer) × (text : List ℕ) × IsDue answer × IsShown version bytes left answer text
-some_written version bytes left =
-    elim (some_reading bytes) [
-      | inl (number, reason, bad) ↦ (Malformed number reason, [], tt, inl (bad, refl))
-      | inr (header, events, end, r) ↦
-          let w = read_written version bytes left header events end r in
-          (written_of end, trace_text (header_written version header) events, w.0, w.1)
-    ]
+some_written : (conversion : Conversion) (bytes : List ℕ) (left : Option (List ℕ)) → CanBeRead (form_read conversion) bytes
+    → (answer : Answer) × (text : List ℕ) × IsDue answer × IsWritten conversion bytes left answer text
+some_written conversion bytes left can =
+    let c = some_conversion conversion bytes left can in
+    (end_answer c.0, c.1, end_due c.0 c.2, (c.0, refl, c.3))
 
 -- ---- scripts
 
@@ -267,8 +240,7 @@ one_answer Check bytes left last answer other text more settled d o f g v w =
     let same = one_verdict bytes answer other d o v w in
     (same, f ∙ ap out_text_of same ∙ sym g)
 one_answer Report bytes left last answer other text more settled d o f g r s = one_told bytes answer other text more d o r s
-one_answer Show bytes left last answer other text more settled d o f g s t = one_written AsRead bytes left last answer other text more d o s t
-one_answer Migrate bytes left last answer other text more settled d o f g s t = one_written Two bytes left last answer other text more d o s t
+one_answer (Convert conversion) bytes left last answer other text more settled d o f g s t = one_written conversion bytes left last answer other text more d o s t
 one_answer (Gen number) bytes left last answer other text more settled d o f g s t =
     let p = generated_due number answer text d s in
     let q = generated_due number other more o t in
@@ -276,26 +248,23 @@ one_answer (Gen number) bytes left last answer other text more settled d o f g s
 one_answer Run bytes left last answer other text more settled d o f g s t = one_unread bytes answer other text more settled d o f g s t
 one_answer (Trial number) bytes left last answer other text more settled d o f g s t = absurd settled
 
-fits_written : (answer : Answer) (text : List ℕ) → IsDue answer → FitsAnswer Show answer text × FitsAnswer Migrate answer text
-fits_written NoMemory text d = absurd d
-fits_written ReadFault text d = absurd d
-fits_written answer text d = (tt, tt)
+fits_written : (conversion : Conversion) (answer : Answer) (text : List ℕ) → IsDue answer → FitsAnswer (Convert conversion) answer text
+fits_written conversion NoMemory text d = absurd d
+fits_written conversion ReadFault text d = absurd d
+fits_written conversion answer text d = tt
 
 -- an answer is due
-pub some_answer : (command : Command) (bytes : List ℕ) (left : Option (List ℕ)) → IsSettled command bytes
+pub some_answer : (command : Command) (bytes : List ℕ) (left : Option (List ℕ)) → CanBeInput command bytes
     → (answer : Answer) × (text : List ℕ) × IsDue answer × FitsAnswer command answer text × IsAnswer command (Some bytes) left answer text
-some_answer Check bytes left settled =
+some_answer Check bytes left can =
     let v = some_verdict bytes in
     (v.0, out_text_of v.0, v.1, refl, v.2)
-some_answer Report bytes left settled =
+some_answer Report bytes left can =
     let v = some_verdict bytes in
     some_told bytes v.0 v.1 v.2
-some_answer Show bytes left settled =
-    let w = some_written AsRead bytes left in
-    (w.0, w.1, w.2, (fits_written w.0 w.1 w.2).0, w.3)
-some_answer Migrate bytes left settled =
-    let w = some_written Two bytes left in
-    (w.0, w.1, w.2, (fits_written w.0 w.1 w.2).1, w.3)
-some_answer (Gen number) bytes left settled = (Generated, script_of number, tt, tt, refl)
-some_answer Run bytes left settled = some_unread bytes settled
-some_answer (Trial number) bytes left settled = absurd settled
+some_answer (Convert conversion) bytes left can =
+    let w = some_written conversion bytes left can in
+    (w.0, w.1, w.2, fits_written conversion w.0 w.1 w.2, w.3)
+some_answer (Gen number) bytes left can = (Generated, script_of number, tt, tt, refl)
+some_answer Run bytes left can = some_ran bytes
+some_answer (Trial number) bytes left can = some_tried number

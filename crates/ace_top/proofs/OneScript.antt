@@ -1,16 +1,20 @@
--- The answer that is due where a script is run is that of its one reading.
-use Rattle.std.proofs.Common.{◌≡◌, ℕ, List, [], refl, sym, ap, ◌∙◌, inl, inr}
+-- The answer that is due where a script is run is that of its one reading, and each right plan has a run.
+use Rattle.std.proofs.Common.{◌≡◌, ℕ, List, [], length, reverse, refl, sym, ap, ◌∙◌, inl, inr}
+use Rattle.ace_event.specs.Text.{trace_text}
 use Rattle.ace_model.specs.Plans.{Plan}
 use Rattle.ace_script.specs.declared.reason.Reason.{Reason}
+use Rattle.ace_script.specs.Generated.{generated}
 use Rattle.ace_script.specs.Reading.{Ending, Whole, Full, Bad, Reads, HasBadHeader}
 use Rattle.ace_script.proofs.EveryReading.{some_reading}
 use Rattle.ace_script.proofs.OneReading.{one_reading, no_bad_header, one_bad_header}
+use Rattle.ace_whole_runs.proofs.WholeRuns.{whole-run}
 use Rattle.ace_top.specs.declared.answer.Answer.{Answer}
-use Rattle.ace_top.specs.declared.answer.Answer.TheVariants.{LimitOperations, MalformedScript, NoMemory, Ran, ReadFault}
-use Rattle.ace_top.specs.declared.words.Command.TheVariants.{Run}
+use Rattle.ace_top.specs.declared.answer.Answer.TheVariants.{LimitOperations, MalformedScript, NoMemory, Ran, ReadFault, Tried}
+use Rattle.ace_top.specs.declared.words.Command.TheVariants.{Run, Trial}
 use Rattle.ace_top.specs.Answer.{FitsAnswer, IsDue, IsSettled}
-use Rattle.ace_top.specs.Run.{IsRan}
+use Rattle.ace_top.specs.Run.{IsRan, IsTried}
 use Rattle.ace_top.specs.Texts.{out_text_of}
+use Rattle.ace_top.proofs.GeneratedRight.{generated_right}
 
 -- the answer where a script that ends so is run
 abbrev pub ran_of : Ending → Answer
@@ -58,11 +62,21 @@ one_unread bytes answer other text more settled d o f g a b =
     let same = one_ran bytes answer other text more d o a b in
     (same, answer_alone bytes answer text settled f a ∙ ap out_text_of same ∙ sym (answer_alone bytes other more settled g b))
 
-pub some_unread : (bytes : List ℕ) → IsSettled Run bytes → (answer : Answer) × (text : List ℕ) × IsDue answer × FitsAnswer Run answer text × IsRan bytes answer text
-some_unread bytes settled =
+-- ---- the answer that is due -----------------------------------------------------------------------------
+
+pub some_ran : (bytes : List ℕ) → (answer : Answer) × (text : List ℕ) × IsDue answer × FitsAnswer Run answer text × IsRan bytes answer text
+some_ran bytes =
     elim (some_reading bytes) [ inl (number, reason, bad) ↦ (MalformedScript number reason, [], tt, refl, inl bad) | inr (plan, end, r) ↦ by plan end r ]
   where
     by : (plan : Plan) (end : Ending) → Reads bytes plan end → (answer : Answer) × (text : List ℕ) × IsDue answer × FitsAnswer Run answer text × IsRan bytes answer text
-    by plan Whole r = absurd (settled plan r)
+    by plan Whole r =
+        let run = whole-run plan r.script.right in
+        (Ran, trace_text plan.header (reverse run.0), tt, (plan, r.script, (run.0, run.1, refl)), (plan, r, (run.0, run.1, refl)))
     by plan Full r = (LimitOperations, [], tt, refl, (plan, r))
     by plan (Bad line reason) r = (MalformedScript line reason, [], tt, refl, inr (plan, r))
+
+pub some_tried : (number : ℕ) → (answer : Answer) × (text : List ℕ) × IsDue answer × FitsAnswer (Trial number) answer text × IsTried number answer
+some_tried number =
+    let run = whole-run (generated number) (generated_right number) in
+    let tried = Tried number (length run.0) in
+    (tried, out_text_of tried, tt, refl, (refl, (run.0, run.1, refl)))

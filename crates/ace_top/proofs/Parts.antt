@@ -4,7 +4,7 @@ use Rattle.std.proofs.lemmas.List.{take_all}
 use Rattle.std.specs.Io.KnownBytes.{Appends, Keeps}
 use Rattle.std.proofs.KnownBytes.{Appends-nil, Keeps-refl}
 use Rattle.ace_io.specs.Faults.{HasCause}
-use Rattle.ace_top.specs.Output.{AppendsPart}
+use Rattle.ace_convert.specs.Output.{AppendsPart}
 
 -- a front of the text
 pub front_appended : (a b : Option (List ℕ)) (n : ℕ) (text : List ℕ) → Appends a b (take n text) → AppendsPart a b text

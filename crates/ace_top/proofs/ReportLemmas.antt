@@ -10,7 +10,8 @@ use Rattle.ace_top.specs.declared.follow.Follower.{Follower}
 use Rattle.ace_top.specs.declared.words.Command.TheVariants.{Report}
 use Rattle.ace_top.specs.Answer.{Answers, BreaksOff, FitsAnswer}
 use Rattle.ace_top.specs.Follow.{HasFollowed}
-use Rattle.ace_top.specs.Output.{AppendsPart, AppendsParts}
+use Rattle.ace_convert.specs.Output.{AppendsPart}
+use Rattle.ace_top.specs.Output.{AppendsParts}
 use Rattle.ace_top.specs.Progress.{IsRefusal}
 use Rattle.ace_top.specs.Report.{ReportsTrace, IsReported}
 use Rattle.ace_top.specs.Texts.{status_of, out_text_of, notes_text_of}

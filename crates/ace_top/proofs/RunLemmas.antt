@@ -11,17 +11,19 @@ use Rattle.ace_script.specs.Errors.{HasNoPlan}
 use Rattle.ace_script.specs.Generated.{generated}
 use Rattle.ace_script.specs.Grammar.{IsScript}
 use Rattle.ace_script.specs.Reading.{Reads, Whole}
+use Rattle.ace_whole_runs.specs.Runs.{IsRunOf}
 use Rattle.ace_top.specs.declared.answer.Answer.{Answer}
 use Rattle.ace_top.specs.declared.answer.Answer.TheVariants.{NoMemory, Ran, Tried}
 use Rattle.ace_top.specs.declared.words.Command.TheVariants.{Run, Trial}
 use Rattle.ace_top.specs.Answer.{Answers, BreaksOff, FitsAnswer}
 use Rattle.ace_top.specs.ErrorAnswer.{plan_answer}
-use Rattle.ace_top.specs.Output.{AppendsPart, AppendsParts}
+use Rattle.ace_convert.specs.Output.{AppendsPart}
+use Rattle.ace_top.specs.Output.{AppendsParts}
 use Rattle.ace_top.specs.Progress.{HasReadCause}
-use Rattle.ace_top.specs.Run.{IsRan, IsRunOf}
+use Rattle.ace_top.specs.Run.{IsRan}
 use Rattle.ace_top.specs.Texts.{status_of, out_text_of, notes_text_of}
 use Rattle.ace_top.proofs.Parts.{both_nothing}
-use Rattle.ace_top.proofs.ShowLemmas.{copy_alone}
+use Rattle.ace_top.proofs.WrittenLemmas.{alone}
 
 -- the trace of a run is that of a run of the script
 ran : (told : Option (List ℕ)) (plan : Plan) (past : Trace) → IsRunOf plan past → IfSome told (λ bytes. Reads bytes plan Whole)
@@ -39,7 +41,7 @@ run_answers told left plan past status out out' out'' notes notes' script run re
   (plan, script, (past, run, refl)),
   ran told plan past run reads,
   is,
-  copy_alone out out' out'' (trace_text plan.header (reverse past)) [] refl given more,
+  alone out out' out'' (trace_text plan.header (reverse past)) [] refl given more,
   noted,
 )
 
@@ -54,7 +56,7 @@ run_breaks_after told left plan past out out' out'' notes notes' script run read
       text,
       (plan, script, (past, run, refl)),
       ran told plan past run reads,
-      (text, [], sym (append-nil text), copy_alone out out' out'' text part (both_nothing part rest (sym cut)).0 given more),
+      (text, [], sym (append-nil text), alone out out' out'' text part (both_nothing part rest (sym cut)).0 given more),
       parts,
     )
 

@@ -1,5 +1,5 @@
 -- The text of a trace that a run gave, event by event.
-use Rattle.std.proofs.Common.{◌≡◌, ◌<◌, ◌+◌, ◌++◌, ℕ, List, [], ◌∷◌, Option, Result, Ok, Err, OnErr, take, drop, length, reverse, get_or, sym, ap, subst, ◌∙◌, append_assoc, take-append-drop, arith}
+use Rattle.std.proofs.Common.{◌≡◌, ◌<◌, ◌+◌, ◌++◌, ℕ, List, [], ◌∷◌, Option, Result, Ok, Err, OnErr, take, drop, length, reverse, get_or, sym, ap, subst, ◌∙◌, append_assoc, take-append-drop}
 use Rattle.std.specs.List.{AllByRecursion}
 use Rattle.std.proofs.lemmas.Grind.{flat_map-append}
 use Rattle.std.proofs.lemmas.List.{take_more, reverse-append, reverse-reverse}
@@ -11,7 +11,7 @@ use Rattle.ace_grammar.proofs.Readings.OneMore.{events_text-more}
 use Rattle.ace_model.specs.Trace.{Trace}
 use Rattle.ace_writer.specs.declared.writer.Writer.{Writer}
 use Rattle.ace_writer.specs.Given.{GivesFront, sink_of}
-use Rattle.ace_top.specs.Output.{AppendsPart}
+use Rattle.ace_convert.specs.Output.{AppendsPart}
 
 -- the text with the line of one more event
 next_text : (version : ℕ) (text : List ℕ) (events : List Event) (count : ℕ) (e : Event) → count < length events → get_or events count e ≡ e

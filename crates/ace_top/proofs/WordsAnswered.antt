@@ -1,14 +1,19 @@
 -- From the answer of a command to the answer to a list of words.
-use Rattle.std.proofs.Common.{◌≡◌, ◌≢◌, ℕ, List, [], Option, String, codes, inl, inr}
+use Rattle.std.proofs.Common.{◌≡◌, ◌≢◌, ℕ, List, [], ◌∷◌, Option, String, codes, map, inl, inr, sym, ap, subst, ◌∙◌}
+use Rattle.std.specs.String.{string_bytes}
 use Rattle.std.specs.declared.alloc.Global.{Global}
+use Rattle.ace_convert.specs.declared.conversion.Conversion.{Conversion}
+use Rattle.ace_convert.specs.declared.conversion.Conversion.TheVariants.{Show, Migrate, Pack, Unpack}
 use Rattle.ace_top.specs.declared.words.Command.{Command}
+use Rattle.ace_top.specs.declared.words.Command.TheVariants.{Convert}
 use Rattle.ace_top.specs.Answer.{CarriesOut, AnswersWords, BreaksOffWords}
 use Rattle.ace_top.specs.Command.{Names}
 use Rattle.ace_top.proofs.Parts.{nothing_appended}
 use Rattle.ace_top.specs.declared.answer.Answer.TheVariants.{NoMemory, Usage}
-use Rattle.ace_top.specs.Output.{AppendsPart, AppendsParts}
+use Rattle.ace_convert.specs.Output.{AppendsPart}
+use Rattle.ace_top.specs.Output.{AppendsParts}
 use Rattle.ace_top.specs.Texts.{notes_text_of}
-use Rattle.ace_top.specs.Words.{IsCheck, IsReport, IsShow, IsMigrate, IsRun, IsGen, IsNumbered, IsTrial, IsTraceCommand, IsReadingCommand, IsCommand}
+use Rattle.ace_top.specs.Words.{IsCheck, IsReport, IsConvert, IsRun, IsGen, IsNumbered, IsTrial, IsTraceCommand, IsReadingCommand, IsCommand, IsNumber, IsWord, word_of}
 
 pub words_carried : (words : List (String Global)) (command : Command) (input left : Option (List ℕ)) (status : ℕ) (out out' notes notes' : Option (List ℕ)) (faults faults' : ℕ)
     → CarriesOut command input left status out out' notes notes' faults faults' → Names words command → status ≢ 5 → AnswersWords words input left status out out' notes notes'
@@ -34,11 +39,8 @@ is_check words n = inl n
 pub is_report : (words : List (String Global)) → IsReport words → IsTraceCommand words
 is_report words n = inr (inl n)
 
-pub is_show : (words : List (String Global)) → IsShow words → IsTraceCommand words
-is_show words n = inr (inr (inl n))
-
-pub is_migrate : (words : List (String Global)) → IsMigrate words → IsTraceCommand words
-is_migrate words n = inr (inr (inr n))
+pub is_convert : (words : List (String Global)) (conversion : Conversion) → IsConvert words conversion → IsTraceCommand words
+is_convert words conversion n = inr (inr (conversion, n))
 
 pub is_trace_command : (words : List (String Global)) → IsTraceCommand words → IsCommand words
 is_trace_command words n = inl (inl n)
@@ -62,15 +64,16 @@ is_trial words number n = inr (number, inr n)
 pub runs_no_trace : (words : List (String Global)) → IsRun words → ¬ IsTraceCommand words
 runs_no_trace words n (inl one) = absurd cc
 runs_no_trace words n (inr (inl one)) = absurd cc
-runs_no_trace words n (inr (inr (inl one))) = absurd cc
-runs_no_trace words n (inr (inr (inr one))) = absurd cc
+runs_no_trace words n (inr (inr (Show, one))) = absurd cc
+runs_no_trace words n (inr (inr (Migrate, one))) = absurd cc
+runs_no_trace words n (inr (inr (Pack, one))) = absurd cc
+runs_no_trace words n (inr (inr (Unpack, one))) = absurd cc
 
 -- nor do two words name a command that reads its input
 two_words : (words : List (String Global)) (text : List ℕ) (number : ℕ) → IsNumbered words text number → ¬ IsReadingCommand words
 two_words words text number (word, are, is) (inl (inl one)) = absurd cc
 two_words words text number (word, are, is) (inl (inr (inl one))) = absurd cc
-two_words words text number (word, are, is) (inl (inr (inr (inl one)))) = absurd cc
-two_words words text number (word, are, is) (inl (inr (inr (inr one)))) = absurd cc
+two_words words text number (word, are, is) (inl (inr (inr (conversion, one)))) = absurd cc
 two_words words text number (word, are, is) (inr one) = absurd cc
 
 pub gen_reads_nothing : (words : List (String Global)) (number : ℕ) → IsGen words number → ¬ IsReadingCommand words
@@ -85,8 +88,7 @@ pub ruleset words_answered = (
   usage_broken,
   is_check,
   is_report,
-  is_show,
-  is_migrate,
+  is_convert,
   is_run,
   is_trace_command,
   reads_trace,
@@ -97,3 +99,42 @@ pub ruleset words_answered = (
   gen_reads_nothing,
   trial_reads_nothing,
 )
+
+-- ---- the words that name no command
+
+-- of the texts of one word
+same_word : (words : List (String Global)) (text other : List ℕ) → map string_bytes words ≡ text ∷ [] → IsWord words other → text ≡ other
+same_word words text other are is = let e : text ∷ [] ≡ other ∷ [] = sym are ∙ is in cc
+
+pub names_none : (words : List (String Global)) (text : List ℕ) → map string_bytes words ≡ text ∷ [] → text ≢ codes "check" → text ≢ codes "report" → text ≢ codes "run"
+    → ((conversion : Conversion) → text ≢ word_of conversion) → ¬ IsCommand words
+names_none words text are check report run none (inl (inl (inl one))) = check (same_word words text (codes "check") are one)
+names_none words text are check report run none (inl (inl (inr (inl one)))) = report (same_word words text (codes "report") are one)
+names_none words text are check report run none (inl (inl (inr (inr (conversion, one))))) = none conversion (same_word words text (word_of conversion) are one)
+names_none words text are check report run none (inl (inr one)) = run (same_word words text (codes "run") are one)
+names_none words text are check report run none (inr (number, inl (word, two, is))) = absurd cc
+names_none words text are check report run none (inr (number, inr (word, two, is))) = absurd cc
+
+pub names_conversion : (words : List (String Global)) (text : List ℕ) (conversion : Conversion) → map string_bytes words ≡ text ∷ [] → text ≡ word_of conversion
+    → Names words (Convert conversion)
+names_conversion words text conversion are is = are ∙ ap (λ t. t ∷ []) is
+
+-- two words name a command only with a number
+pub names_no_two : (words : List (String Global)) (text word : List ℕ) → map string_bytes words ≡ text ∷ word ∷ []
+    → ((number : ℕ) → IsNumber word number → (text ≢ codes "gen") × (text ≢ codes "trial")) → ¬ IsCommand words
+names_no_two words text word are none (inl (inl (inl one))) = absurd cc
+names_no_two words text word are none (inl (inl (inr (inl one)))) = absurd cc
+names_no_two words text word are none (inl (inl (inr (inr (conversion, one))))) = absurd cc
+names_no_two words text word are none (inl (inr one)) = absurd cc
+names_no_two words text word are none (inr (number, inl (other, two, is))) =
+    let e : text ∷ word ∷ [] ≡ codes "gen" ∷ other ∷ [] = sym are ∙ two in
+    let w : word ≡ other = cc in
+    let t : text ≡ codes "gen" = cc in
+    (none number (subst (λ x. IsNumber x number) (sym w) is)).0 t
+names_no_two words text word are none (inr (number, inr (other, two, is))) =
+    let e : text ∷ word ∷ [] ≡ codes "trial" ∷ other ∷ [] = sym are ∙ two in
+    let w : word ≡ other = cc in
+    let t : text ≡ codes "trial" = cc in
+    (none number (subst (λ x. IsNumber x number) (sym w) is)).1 t
+
+pub ruleset naming = (names_none, names_conversion)

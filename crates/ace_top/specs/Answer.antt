@@ -3,46 +3,46 @@ use Rattle.std.specs.Prelude.{◌≡◌, ◌≢◌, ◌<◌, ◌≤◌, ◌-◌,
 use Rattle.std.specs.Io.KnownBytes.{Appends}
 use Rattle.std.specs.declared.alloc.Global.{Global}
 use Rattle.ace_io.specs.Faults.{Rose}
+use Rattle.ace_convert.specs.declared.conversion.Conversion.{Conversion}
+use Rattle.ace_convert.specs.Converted.{CanBeRead, ConvertsFront}
+use Rattle.ace_convert.specs.Output.{AppendsPart}
+use Rattle.ace_convert.specs.Spelling.{form_read}
 use Rattle.ace_model.specs.Plans.{Plan}
 use Rattle.ace_script.specs.Reading.{Reads, Whole}
 use Rattle.ace_top.specs.declared.answer.Answer.{Answer}
 use Rattle.ace_top.specs.declared.answer.Answer.TheVariants.{Accepted, NoMemory, Ran, ReadFault, Reported, Usage}
-use Rattle.ace_top.specs.declared.show.Version.{Version}
-use Rattle.ace_top.specs.declared.show.Version.TheVariants.{AsRead, Two}
 use Rattle.ace_top.specs.declared.words.Command.{Command}
-use Rattle.ace_top.specs.declared.words.Command.TheVariants.{Check, Report, Show, Migrate, Run, Gen, Trial}
-use Rattle.ace_top.specs.Command.{Names, writing}
+use Rattle.ace_top.specs.declared.words.Command.TheVariants.{Check, Report, Convert, Run, Gen, Trial}
+use Rattle.ace_top.specs.Command.{Names}
 use Rattle.ace_top.specs.Generate.{IsGenerated}
-use Rattle.ace_top.specs.Output.{AppendsPart, AppendsParts}
-use Rattle.ace_top.specs.Show.{IsShown, ShowsFront}
+use Rattle.ace_top.specs.Output.{AppendsParts}
 use Rattle.ace_top.specs.Texts.{status_of, out_text_of, notes_text_of}
 use Rattle.ace_top.specs.Report.{IsReported}
 use Rattle.ace_top.specs.Run.{IsRan, IsTried, WritesSomeRun}
 use Rattle.ace_top.specs.Verdict.{IsVerdict}
 use Rattle.ace_top.specs.Words.{IsCommand}
+use Rattle.ace_top.specs.Written.{IsWritten}
 
 -- what a command answers to this input, of which this is left, with this text on the standard output
 abbrev pub IsAnswer : Command → Option (List ℕ) → Option (List ℕ) → Answer → List ℕ → Type 0
 IsAnswer Check input left answer text = IfSome input (λ bytes. IsVerdict bytes answer)
 IsAnswer Report input left answer text = IfSome input (λ bytes. IsReported bytes answer text)
-IsAnswer Show input left answer text = IfSome input (λ bytes. IsShown AsRead bytes left answer text)
-IsAnswer Migrate input left answer text = IfSome input (λ bytes. IsShown Two bytes left answer text)
+IsAnswer (Convert conversion) input left answer text =
+    IfSome input (λ bytes. IsWritten conversion bytes left answer text)
 IsAnswer Run input left answer text = IfSome input (λ bytes. IsRan bytes answer text)
 IsAnswer (Gen number) input left answer text = IsGenerated number answer text
 IsAnswer (Trial number) input left answer text = IsTried number answer
 
 -- what the answer alone says of that text: `check` writes no more than its answer, and so does `report` where it reports no
--- trace; `show` and `migrate` write nothing where there was no memory; `run` writes the trace of a run of some script, or nothing; `trial`
+-- trace; what writes a trace of a trace writes nothing where there was no memory; `run` writes the trace of a run of some script, or nothing; `trial`
 -- writes no more than its answer; and of `gen` it is said above
 abbrev pub FitsAnswer : Command → Answer → List ℕ → Type 0
 FitsAnswer Check answer text = text ≡ out_text_of answer
 FitsAnswer Report Reported text = ⊤
 FitsAnswer Report (Accepted events) text = ⊥
 FitsAnswer Report answer text = text ≡ out_text_of answer
-FitsAnswer Show NoMemory text = text ≡ []
-FitsAnswer Show answer text = ⊤
-FitsAnswer Migrate NoMemory text = text ≡ []
-FitsAnswer Migrate answer text = ⊤
+FitsAnswer (Convert conversion) NoMemory text = text ≡ []
+FitsAnswer (Convert conversion) answer text = ⊤
 FitsAnswer Run Ran text = WritesSomeRun text
 FitsAnswer Run answer text = text ≡ out_text_of answer
 FitsAnswer (Gen number) answer text = ⊤
@@ -54,12 +54,17 @@ IsDue ReadFault = ⊥
 IsDue NoMemory = ⊥
 IsDue answer = ⊤
 
+-- what can be the input of the command: numbers that are read as a binary trace are bytes
+abbrev pub CanBeInput : Command → List ℕ → Type 0
+CanBeInput (Convert conversion) bytes = CanBeRead (form_read conversion) bytes
+CanBeInput command bytes = ⊤
+
 -- the words and the bytes of the input alone tell what the command writes: it runs no script, or
 -- the input isn't a whole one
 abbrev pub IsSettled : Command → List ℕ → Type 0
 IsSettled Run bytes = (plan : Plan) → Reads bytes plan Whole → ⊥
 IsSettled (Trial number) bytes = ⊥
-IsSettled command bytes = ⊤
+IsSettled command bytes = CanBeInput command bytes
 
 -- The status is that of an answer of the command, and its texts were appended to the two outputs, whether or not the input
 -- tells its bytes.
@@ -90,7 +95,8 @@ AnswersInPart command input left out out' notes notes' =
 abbrev pub WritesInPart : Command → Option (List ℕ)
     → Option (List ℕ) → Option (List ℕ) → Option (List ℕ) → Option (List ℕ) → Type 0
 WritesInPart command input out out' notes notes' =
-    (version : Version) × (text : List ℕ) × (command ≡ writing version) × IfSome input (λ bytes. ShowsFront version bytes text)
+    (conversion : Conversion) × (text : List ℕ) × (command ≡ Convert conversion)
+    × IfSome input (λ bytes. ConvertsFront conversion bytes text)
     × AppendsPart out out' text × AppendsPart notes notes' (codes "write fault\n")
 
 abbrev pub BreaksOff : Command → Option (List ℕ) → Option (List ℕ)

@@ -1,6 +1,5 @@
 pub mod Answer
 pub mod Command
-pub mod Copy
 pub mod ErrorAnswer
 pub mod Follow
 pub mod Generate
@@ -9,8 +8,7 @@ pub mod Parse
 pub mod Progress
 pub mod Report
 pub mod Run
-pub mod Show
 pub mod Texts
 pub mod Verdict
-pub mod Versions
 pub mod Words
+pub mod Written

@@ -1,24 +1,14 @@
 -- What `run` and `trial` answer.
-use Rattle.std.specs.Prelude.{◌≡◌, ◌≤◌, ◌*◌, ⊤, ℕ, List, length, reverse}
+use Rattle.std.specs.Prelude.{◌≡◌, ⊤, ℕ, List, length, reverse}
 use Rattle.ace_event.specs.Text.{trace_text}
-use Rattle.ace_model.specs.Accepted.{IsAccepted}
 use Rattle.ace_model.specs.Plans.{Plan}
 use Rattle.ace_model.specs.Trace.{Trace}
-use Rattle.ace_runs.specs.Follows.{Follows}
-use Rattle.ace_runs.specs.Steps.{AreSteps}
 use Rattle.ace_script.specs.Generated.{generated}
 use Rattle.ace_script.specs.Grammar.{IsScript}
 use Rattle.ace_script.specs.Reading.{Reads, Whole, Full, IsMalformed}
+use Rattle.ace_whole_runs.specs.Runs.{IsRunOf}
 use Rattle.ace_top.specs.declared.answer.Answer.{Answer}
 use Rattle.ace_top.specs.declared.answer.Answer.TheVariants.{LimitOperations, MalformedScript, NoMemory, Ran, ReadFault, Tried}
-
--- The trace is that of a run of the plan: it is accepted, follows the whole plan, is a list of steps, and has at most 256 events for each
--- operation.
-pub record IsRunOf (plan : Plan) (past : Trace) : Type 0 where
-  pub accepted : IsAccepted plan.header past
-  pub follows : Follows plan past
-  pub steps : AreSteps plan past
-  pub few : length past ≤ length plan.operations * 256
 
 -- The text is that of such a trace.
 abbrev pub WritesRun : Plan → List ℕ → Type 0

@@ -1,9 +1,10 @@
 -- The status and the texts of each answer.
 use Rattle.std.specs.Prelude.{ℕ, List, [], ◌++◌, codes, decimal}
 use Rattle.ace_grammar.specs.Reasons.{number_of_reason}
+use Rattle.ace_bin.specs.Reading as binary
 use Rattle.ace_script.specs.Fields as script
 use Rattle.ace_top.specs.declared.answer.Answer.{Answer}
-use Rattle.ace_top.specs.declared.answer.Answer.TheVariants.{Accepted, Refused, Shown, Reported, Generated, Ran, Tried, Usage, Malformed, MalformedScript, ReadFault, LimitEvents, LimitLines, LimitOperations, NoMemory}
+use Rattle.ace_top.specs.declared.answer.Answer.TheVariants.{Accepted, Refused, Shown, Reported, Generated, Ran, Tried, Usage, Malformed, MalformedScript, MalformedRecord, ReadFault, LimitEvents, LimitLines, LimitOperations, NoMemory}
 
 abbrev pub status_of : Answer → ℕ
 status_of (Accepted events) = 0
@@ -16,6 +17,7 @@ status_of (Tried number events) = 0
 status_of Usage = 2
 status_of (Malformed line reason) = 3
 status_of (MalformedScript line reason) = 3
+status_of (MalformedRecord byte reason) = 3
 status_of ReadFault = 4
 status_of LimitEvents = 6
 status_of LimitLines = 6
@@ -31,9 +33,13 @@ out_text_of answer = []
 
 -- what is written to the standard error
 abbrev pub notes_text_of : Answer → List ℕ
-notes_text_of Usage = codes "usage: ace check|run|show|migrate|report|gen N|trial N\n"
+notes_text_of Usage =
+    codes "usage: ace check|run|show|migrate|pack|unpack|report|gen N|trial N\n"
 notes_text_of (Malformed line reason) = codes "malformed line " ++ decimal line ++ codes ": F" ++ decimal (number_of_reason reason) ++ codes "\n"
 notes_text_of (MalformedScript line reason) = codes "malformed line " ++ decimal line ++ codes ": P" ++ decimal (script.number_of_reason reason) ++ codes "\n"
+notes_text_of (MalformedRecord byte reason) =
+    codes "malformed byte " ++ decimal byte ++ codes ": Z"
+    ++ decimal (binary.number_of_reason reason) ++ codes "\n"
 notes_text_of ReadFault = codes "read fault\n"
 notes_text_of LimitEvents = codes "limit events\n"
 notes_text_of LimitLines = codes "limit lines\n"

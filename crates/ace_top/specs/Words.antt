@@ -2,6 +2,8 @@
 use Rattle.std.specs.Prelude.{◌≡◌, ◌<◌, ◌^◌, ◌⊎◌, ℕ, List, [], ◌∷◌, map, codes, decimal, String}
 use Rattle.std.specs.String.{string_bytes}
 use Rattle.std.specs.declared.alloc.Global.{Global}
+use Rattle.ace_convert.specs.declared.conversion.Conversion.{Conversion}
+use Rattle.ace_convert.specs.declared.conversion.Conversion.TheVariants.{Show, Migrate, Pack, Unpack}
 
 -- there is one word, and it is this text
 abbrev pub IsWord : List (String Global) → List ℕ → Type 0
@@ -13,11 +15,16 @@ IsCheck words = IsWord words (codes "check")
 abbrev pub IsReport : List (String Global) → Type 0
 IsReport words = IsWord words (codes "report")
 
-abbrev pub IsShow : List (String Global) → Type 0
-IsShow words = IsWord words (codes "show")
+-- the word for a conversion
+abbrev pub word_of : Conversion → List ℕ
+word_of Show = codes "show"
+word_of Migrate = codes "migrate"
+word_of Pack = codes "pack"
+word_of Unpack = codes "unpack"
 
-abbrev pub IsMigrate : List (String Global) → Type 0
-IsMigrate words = IsWord words (codes "migrate")
+-- the word is that of a conversion
+abbrev pub IsConvert : List (String Global) → Conversion → Type 0
+IsConvert words conversion = IsWord words (word_of conversion)
 
 -- the word is this number, from 0 to 2^64 - 1, in decimal: it has no sign, and no zero in front
 abbrev pub IsNumber : List ℕ → ℕ → Type 0
@@ -38,7 +45,8 @@ IsTrial words number = IsNumbered words (codes "trial") number
 
 -- The words name a command that reads a trace.
 abbrev pub IsTraceCommand : List (String Global) → Type 0
-IsTraceCommand words = IsCheck words ⊎ IsReport words ⊎ IsShow words ⊎ IsMigrate words
+IsTraceCommand words =
+    IsCheck words ⊎ IsReport words ⊎ ((conversion : Conversion) × IsConvert words conversion)
 
 -- The words name a command that reads its input: a trace, or a script.
 abbrev pub IsReadingCommand : List (String Global) → Type 0

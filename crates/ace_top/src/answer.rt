@@ -1,8 +1,10 @@
 // The answers of the program: their statuses and texts.
 ghost use Rattle.std.specs.Prelude.{◌≡◌, ◌≢◌, ◌≤◌, ◌++◌, codes, decimal, length};
-ghost use Rattle.ace_top.specs.ErrorAnswer.{error_answer, plan_answer};
+ghost use Rattle.ace_top.specs.ErrorAnswer.{end_answer, error_answer, plan_answer};
 ghost use Rattle.ace_top.specs.Texts.{status_of, out_text_of, notes_text_of};
 
+use ace_bin::BinReason;
+use ace_convert::TraceEnd;
 use ace_grammar::{ReadErr, Reason};
 use ace_script::PlanErr;
 use arrayvec::ArrayString;
@@ -45,6 +47,11 @@ pub enum Answer {
         line: u64,
         reason: ace_script::Reason,
     },
+    /// Behind so many bytes stands the first header or record of a binary trace that is malformed, for this reason.
+    MalformedRecord {
+        byte: u64,
+        reason: BinReason,
+    },
     /// The input failed.
     ReadFault,
     /// The input goes on after as many events as a trace may have.
@@ -66,6 +73,20 @@ pub fn error_answer(error: ReadErr) -> Answer
         ReadErr::TooManyEvents => Answer::LimitEvents,
         ReadErr::ReadFault => Answer::ReadFault,
         ReadErr::NoMemory => Answer::NoMemory,
+    }
+}
+
+/// The answer as the reading of a trace that is written ends.
+pub fn end_answer(end: TraceEnd) -> Answer
+    ensures { result ≡ end_answer end }
+{
+    match end {
+        TraceEnd::Whole => Answer::Shown,
+        TraceEnd::BadLine { line, reason } => Answer::Malformed { line, reason },
+        TraceEnd::BadRecord { byte, reason } => Answer::MalformedRecord { byte, reason },
+        TraceEnd::Full => Answer::LimitEvents,
+        TraceEnd::ReadFault => Answer::ReadFault,
+        TraceEnd::NoMemory => Answer::NoMemory,
     }
 }
 
@@ -95,7 +116,9 @@ pub fn status_of(answer: Answer) -> u8
         | Answer::Tried { .. } => 0,
         Answer::Refused { .. } => 1,
         Answer::Usage => 2,
-        Answer::Malformed { .. } | Answer::MalformedScript { .. } => 3,
+        Answer::Malformed { .. }
+        | Answer::MalformedScript { .. }
+        | Answer::MalformedRecord { .. } => 3,
         Answer::ReadFault => 4,
         Answer::LimitEvents | Answer::LimitLines | Answer::LimitOperations => 6,
         Answer::NoMemory => 7,
@@ -133,15 +156,20 @@ pub fn out_text(answer: Answer) -> ArrayString<96>
     text
 }
 
-/// Which line is malformed, and for which reason: the letter of its kind, and its number.
-fn malformed_text(line: u64, letter: &str, number: u8) -> ArrayString<64>
-    requires { length letter.now ≤ 2 }
-    ensures { result.bytes ≡ codes "malformed line " ++ decimal line ++ codes ": " ++ letter.now ++ decimal number ++ codes "\n" }
+/// What is malformed, as the line or byte of this number, and for which reason: the letter of its kind, and its number.
+fn malformed_text(what: &str, place: u64, letter: &str, number: u8) -> ArrayString<96>
+    requires what { length what.now ≤ 4 }
+    requires letter { length letter.now ≤ 2 }
+    ensures { result.bytes
+        ≡ codes "malformed " ++ what.now ++ codes " " ++ decimal place ++ codes ": " ++ letter.now
+        ++ decimal number ++ codes "\n" }
 {
     let mut text = ArrayString::new();
     let mut digits = Buffer::new();
-    text.push_str("malformed line ");
-    text.push_str(digits.format(line));
+    text.push_str("malformed ");
+    text.push_str(what);
+    text.push_str(" ");
+    text.push_str(digits.format(place));
     text.push_str(": ");
     text.push_str(letter);
     text.push_str(digits.format(number));
@@ -150,16 +178,23 @@ fn malformed_text(line: u64, letter: &str, number: u8) -> ArrayString<64>
 }
 
 /// The text for the standard error, with its line feed.
-pub fn notes_text(answer: Answer) -> ArrayString<64>
+pub fn notes_text(answer: Answer) -> ArrayString<96>
     ensures { result.bytes ≡ notes_text_of answer }
 {
     let mut text = ArrayString::new();
     match answer {
-        Answer::Malformed { line, reason } => return malformed_text(line, "F", reason.number()),
-        Answer::MalformedScript { line, reason } => {
-            return malformed_text(line, "P", reason.number());
+        Answer::Malformed { line, reason } => {
+            return malformed_text("line", line, "F", reason.number());
         }
-        Answer::Usage => text.push_str("usage: ace check|run|show|migrate|report|gen N|trial N\n"),
+        Answer::MalformedScript { line, reason } => {
+            return malformed_text("line", line, "P", reason.number());
+        }
+        Answer::MalformedRecord { byte, reason } => {
+            return malformed_text("byte", byte, "Z", reason.number());
+        }
+        Answer::Usage => {
+            text.push_str("usage: ace check|run|show|migrate|pack|unpack|report|gen N|trial N\n");
+        }
         Answer::ReadFault => text.push_str("read fault\n"),
         Answer::LimitEvents => text.push_str("limit events\n"),
         Answer::LimitLines => text.push_str("limit lines\n"),

@@ -13,7 +13,7 @@ ghost use Rattle.ace_check.specs.Run as check;
 ghost use Rattle.ace_report.specs.Stands as reporting;
 ghost use Rattle.ace_report.specs.Report.{report_text};
 ghost use Rattle.ace_top.specs.Follow.{Follows, HasTaken, TakesOn, fed_answer};
-ghost use Rattle.ace_top.specs.Output.{AppendsPart};
+ghost use Rattle.ace_convert.specs.Output.{AppendsPart};
 ghost use Rattle.ace_top.specs.Progress.{IsStop, StopsAt};
 
 use crate::answer::Answer;

@@ -4,7 +4,7 @@ ghost use Rattle.std.specs.Io.KnownBytes.{Appends};
 ghost use Rattle.ace_io.specs.Faults.{HasCause, Rose};
 ghost use Rattle.ace_script.specs.Text.{plan_text};
 ghost use Rattle.ace_top.specs.Answer.{CarriesOut};
-ghost use Rattle.ace_top.specs.Output.{AppendsPart};
+ghost use Rattle.ace_convert.specs.Output.{AppendsPart};
 ghost use Rattle.ace_top.specs.declared.words.Command.TheVariants as command;
 
 use crate::answer::Answer;

@@ -3,7 +3,6 @@
 
 mod answer;
 mod check;
-mod copy;
 mod follow;
 mod generate;
 pub mod laws;

@@ -2,7 +2,8 @@
 ghost use Rattle.std.specs.Prelude.{◌≡◌, ◌≢◌, ◌<◌, ◌≤◌, ◌-◌, ◌^◌, ◌⊎◌, codes, OnOk, OnErr};
 ghost use Rattle.std.specs.Io.KnownBytes.{Appends, Keeps};
 ghost use Rattle.ace_io.specs.Faults.{Rose, HasCause};
-ghost use Rattle.ace_top.specs.Output.{AppendsPart, AppendsParts};
+ghost use Rattle.ace_convert.specs.Output.{AppendsPart};
+ghost use Rattle.ace_top.specs.Output.{AppendsParts};
 ghost use Rattle.ace_top.specs.Texts.{status_of, out_text_of, notes_text_of};
 
 use crate::answer::{Answer, notes_text, out_text, status_of};

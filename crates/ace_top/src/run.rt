@@ -12,9 +12,9 @@ ghost use Rattle.ace_script.specs.Errors.{HasNoPlan};
 ghost use Rattle.ace_script.specs.Grammar.{IsScript};
 ghost use Rattle.ace_script.specs.Reading.{Reads, Whole};
 ghost use Rattle.ace_writer.specs.Given.{GivesFront, sink_of, version_of, has_failed};
+ghost use Rattle.ace_whole_runs.specs.Runs.{IsRunOf};
 ghost use Rattle.ace_top.specs.Answer.{CarriesOut, HasStatusCause};
-ghost use Rattle.ace_top.specs.Output.{AppendsPart};
-ghost use Rattle.ace_top.specs.Run.{IsRunOf};
+ghost use Rattle.ace_convert.specs.Output.{AppendsPart};
 ghost use Rattle.ace_top.specs.declared.words.Command.TheVariants as command;
 
 use crate::answer::{Answer, plan_answer};

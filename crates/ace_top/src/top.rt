@@ -13,7 +13,7 @@ use crate::check::{tell_report, tell_verdict};
 use crate::generate::write_script;
 use crate::output::conclude;
 use crate::run::run_script;
-use crate::show::{Version, write_out};
+use crate::show::write_out;
 use crate::trial::tell_trial;
 use crate::words::{Command, command_of};
 use ace_io::{Gate, Sink, Source};
@@ -72,8 +72,7 @@ pub fn ace<R: Threads + Wait + Sync, S: Source, K: Sink, E: Sink, G: Gate + Sync
     match command {
         Some(Command::Check) => tell_verdict(alloc, input, out, notes),
         Some(Command::Report) => tell_report(alloc, input, out, notes),
-        Some(Command::Show) => write_out(alloc, input, out, notes, Version::AsRead),
-        Some(Command::Migrate) => write_out(alloc, input, out, notes, Version::Two),
+        Some(Command::Convert { conversion }) => write_out(alloc, input, out, notes, conversion),
         Some(Command::Run) => run_script(rt, alloc, input, out, notes, gate),
         Some(Command::Gen { number }) => write_script(alloc, number, out, notes),
         Some(Command::Trial { number }) => tell_trial(alloc, number, out, notes),

@@ -3,8 +3,8 @@ ghost use Rattle.std.specs.Prelude.{◌≡◌, ◌≢◌, ◌⊎◌, ℕ, List, 
 ghost use Rattle.ace_io.specs.Faults.{Rose};
 ghost use Rattle.ace_model.specs.Trace.{Trace};
 ghost use Rattle.ace_script.specs.Generated.{generated};
+ghost use Rattle.ace_whole_runs.specs.Runs.{IsRunOf};
 ghost use Rattle.ace_top.specs.Answer.{CarriesOut};
-ghost use Rattle.ace_top.specs.Run.{IsRunOf};
 ghost use Rattle.ace_top.specs.declared.words.Command.TheVariants as command;
 
 use crate::answer::Answer;

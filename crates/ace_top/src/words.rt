@@ -1,11 +1,13 @@
 // The words of the command line.
-ghost use Rattle.std.specs.Prelude.{◌≡◌, ◌↔◌, ℕ, List, [], ◌∷◌, map, String, decimal, IfOk, IsTrue, MatchOption};
+ghost use Rattle.std.specs.Prelude.{◌≡◌, ◌≢◌, ◌↔◌, ℕ, List, [], ◌∷◌, map, String, decimal, IfOk, IsTrue, MatchOption};
 ghost use Rattle.std.specs.String.{string_bytes};
 ghost use Rattle.ace_top.specs.Command.{Names};
 ghost use Rattle.ace_top.specs.Parse.{any_hyphen, starts_with_hyphen};
-ghost use Rattle.ace_top.specs.Words.{IsCommand, IsNumber};
+ghost use Rattle.ace_convert.specs.declared.conversion.Conversion.{Conversion};
+ghost use Rattle.ace_top.specs.Words.{IsCommand, IsNumber, word_of};
 
 use crate::parse::{Positionals, parse_words};
+use ace_convert::Conversion;
 use ace_io::NoMemory;
 use itoa::Buffer;
 use std::alloc::Global;
@@ -17,10 +19,8 @@ pub enum Command {
     Check,
     /// To report what an accepted trace did.
     Report,
-    /// To write a trace as it reads.
-    Show,
-    /// To write a trace in version 2.
-    Migrate,
+    /// To write what is made of a trace.
+    Convert { conversion: Conversion },
     /// To run a script, and to write the trace of the run.
     Run,
     /// To write the script that is made from this number.
@@ -70,7 +70,22 @@ fn has_hyphen(words: &[String]) -> bool
     words.iter().any(|word| begins_with_hyphen(word.as_str()))
 }
 
+/// The conversion that a word names.
+fn conversion_of(text: &str) -> Option<Conversion>
+    ensures { MatchOption result ((conversion : Conversion) → text.now ≢ word_of conversion)
+        (λ conversion. text.now ≡ word_of conversion) }
+{
+    match text {
+        "show" => Some(Conversion::Show),
+        "migrate" => Some(Conversion::Migrate),
+        "pack" => Some(Conversion::Pack),
+        "unpack" => Some(Conversion::Unpack),
+        _ => None,
+    }
+}
+
 /// The command that one word names.
+#[tactic(auto, using(crate::proofs::WordsAnswered::naming))]
 fn one_word(text: &str) -> Option<Command>
     ensures { (words : List (String Global)) → map string_bytes words ≡ text.now ∷ []
         → MatchOption result (¬ IsCommand words) (Names words) }
@@ -78,14 +93,16 @@ fn one_word(text: &str) -> Option<Command>
     match text {
         "check" => Some(Command::Check),
         "report" => Some(Command::Report),
-        "show" => Some(Command::Show),
-        "migrate" => Some(Command::Migrate),
         "run" => Some(Command::Run),
-        _ => None,
+        _ => match conversion_of(text) {
+            Some(conversion) => Some(Command::Convert { conversion }),
+            None => None,
+        },
     }
 }
 
 /// The command that two words name.
+#[tactic(auto, using(crate::proofs::WordsAnswered::naming))]
 fn two_words(text: &str, word: &str) -> Option<Command>
     ensures { (words : List (String Global)) → map string_bytes words ≡ text.now ∷ word.now ∷ []
         → MatchOption result (¬ IsCommand words) (Names words) }

@@ -2,6 +2,7 @@
 
 mod faults;
 mod gates;
+mod packed;
 mod runs;
 
 use ace_io::{Free, MemSink, MemSource, Source};
@@ -93,7 +94,7 @@ const OPENING: &str = "ACE 2\nPORTS AL\n\
     MEM 00000040 00112233445566778899aabbccddeeff00000000000000000000000000000000000000000000000000000000000000000000000000000000ffffffffffffffff\n\
     RK 1f UC\n";
 
-const USAGE: &str = "usage: ace check|run|show|migrate|report|gen N|trial N\n";
+const USAGE: &str = "usage: ace check|run|show|migrate|pack|unpack|report|gen N|trial N\n";
 
 /// A trace, and what is wanted of a command over it: the status, and the texts of the two outputs.
 type Row = (&'static str, u8, &'static str, &'static str);
@@ -387,7 +388,7 @@ type Call = (
     &'static str,
 );
 
-const CALLS: [Call; 10] = [
+const CALLS: [Call; 13] = [
     (&[], (99, 99), 2, "", USAGE),
     (&["check", "x"], (99, 99), 2, "", USAGE),
     (&["Check"], (99, 99), 2, "", USAGE),
@@ -396,6 +397,9 @@ const CALLS: [Call; 10] = [
     (&["check"], (99, 0), 0, "accepted 0\n", ""),
     (&["report"], (4, 99), 5, "port", "write fault\n"),
     (&["report", "report"], (99, 99), 2, "", USAGE),
+    (&["pack", "1"], (99, 99), 2, "", USAGE),
+    (&["packs"], (99, 99), 2, "", USAGE),
+    (&["Unpack"], (99, 99), 2, "", USAGE),
     (&[], (99, 0), 5, "", ""),
     (&[], (99, 5), 5, "", "usage"),
 ];

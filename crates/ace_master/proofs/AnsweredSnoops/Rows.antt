@@ -1,7 +1,7 @@
 -- What a row of a snoop says, beside a memory update or not.
-use Rattle.std.proofs.Common.{◌≡◌, ◌⊎◌, ℕ, zero, suc, Bool, true, false, not, ◌&&◌, ◌==◌, List, [], ◌∷◌, ◌++◌, Contains, refl, sym, subst, inl, inr, arith}
+use Rattle.std.proofs.Common.{◌≡◌, ◌<◌, ◌⊎◌, ℕ, zero, suc, Bool, true, false, not, ◌&&◌, ◌==◌, List, [], ◌∷◌, ◌++◌, Contains, length, refl, sym, subst, inl, inr, arith}
 use Rattle.std.specs.List.{list_all}
-use Rattle.std.proofs.lemmas.Bool.{and_from, and_parts, cases_Bool, eqb-true}
+use Rattle.std.proofs.lemmas.Bool.{and_from, and_parts, cases_Bool, eqb-true, true≢false}
 use Rattle.ace_codes.specs.declared.kind.SnoopKind.{SnoopKind}
 use Rattle.ace_codes.specs.declared.kind.SnoopKind.TheVariants as snoop
 use Rattle.ace_codes.specs.declared.state.LineState.{LineState}
@@ -47,6 +47,26 @@ contained-fits test (x ∷ xs) r all (suc i, low, is) = contained-fits test xs r
 -- a row of the list is a row of the snoop
 pub contained-row : (k : SnoopKind) (held : LineState) (u : Bool) (r : Row) → Contains (snoop_rows k held u) r → is_snoop_row k held u r.resp r.next ≡ true
 contained-row k held u r there = contained-fits (fits k held u) (snoop_rows k held u) r (all-fit k held u) there
+
+-- A snoop of a line has a row in each state, where no memory update of the line is outstanding.
+always-row : (k : SnoopKind) (held : LineState) → is_line_snoop k ≡ true → (length (snoop_rows k held false) == 0) ≡ false
+unfolding snoop_rows rows_to rows_among
+always-row snoop.DvmComplete held line = cc
+always-row snoop.DvmMessage held line = cc
+always-row k I line = refl
+always-row k UC line = refl
+always-row k UD line = refl
+always-row k SC line = refl
+always-row k SD line = refl
+
+pub has-row : (k : SnoopKind) (held : LineState) (u : Bool) → is_line_snoop k ≡ true
+    → (u ≡ true → (length (snoop_rows k held true) == 0) ≡ false) → (length (snoop_rows k held u) == 0) ≡ false
+has-row k held true line asked = asked refl
+has-row k held false line asked = always-row k held line
+
+pub is-there : (n : ℕ) → (n == 0) ≡ false → 0 < n
+is-there zero t = absurd (true≢false t)
+is-there (suc n) t = omega arith
 
 -- ---- one row -----------------------------------------------------------------------------------------
 

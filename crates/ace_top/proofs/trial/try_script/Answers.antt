@@ -2,7 +2,7 @@ use Rattle.std.proofs.Common.{◌≡◌, ap, subst, ◌∙◌}
 use Rattle.ace_model.specs.Plans.{Plan, PlanWithRoom}
 use Rattle.ace_script.specs.Generated.{generated}
 use Rattle.ace_fabric.specs.Runs.{Run}
-use Rattle.ace_top.specs.Run.{IsRunOf}
+use Rattle.ace_whole_runs.specs.Runs.{IsRunOf}
 use Rattle.ace_top.proofs.trial.try_script.Goals as goal
 
 pub returns : goal.returns

@@ -1,5 +1,5 @@
 use Rattle.std.proofs.Common.{◌≡◌, ◌+◌, ℕ, false, true, length, Some, is_some, if◌then◌else◌, nat_eq, refl, sym, ap, subst, ◌∙◌, arith}
-use Rattle.ace_lineck.proofs.Terms.{All, get, index_map_len, spare, Header, IsFresh}
+use Rattle.ace_lineck.proofs.Terms.{AreRoomFor, get, index_map_len, spare, Header}
 use Rattle.std.proofs.lemmas.Grind.{common_steps}
 use Rattle.ace_portck.proofs.LineMaps.{room-for-line, room-with}
 use Rattle.ace_lineck.proofs.AllLines.{made}
@@ -13,8 +13,8 @@ returns-then-is_some-clause-made c q = has-place c.args.self.now (Some c.args.li
 -- no record could be taken
 pub returns-in_default-clause-stands : goal.returns-in_default-clause-stands
 returns-in_default-clause-stands c r s q =
-    let all = subst (λ (v : Header). All (IsFresh v.ports) c.args.self.now.spare.items) (sym s.header) s.spare in
-    respared c.args.self.now _ r refl refl refl refl (subst (λ (v : Header). All (IsFresh v.ports) c.take_record.new.spare.items) s.header (c.take_record.ensures.rest all)) s
+    let all = subst (λ (v : Header). AreRoomFor v.ports c.args.self.now.spare.items) (sym s.header) s.spare in
+    respared c.args.self.now _ r refl refl refl refl (subst (λ (v : Header). AreRoomFor v.ports c.take_record.new.spare.items) s.header (c.take_record.ensures.rest all)) s
 
 pub returns-in_default-clause-cause : goal.returns-in_default-clause-cause
 returns-in_default-clause-cause c q =
@@ -49,7 +49,7 @@ returns-in-Ok-insert-clause-stands c r s q =
     let none = get-none c.args.self.now c.args.line (sym q ∙ off) in
     let here : get nat_eq c.insert.new.self c.args.line ≡ Some c.in-Ok.kept = grind (arith, common_steps) in
     let there : (k : ℕ) → (k ≡ c.args.line → ⊥) → get nat_eq c.insert.new.self k ≡ get nat_eq c.args.self.now.lines k = λ k n. grind (arith, common_steps) in
-    let all = subst (λ (v : Header). All (IsFresh v.ports) c.args.self.now.spare.items) (sym s.header) s.spare in
+    let all = subst (λ (v : Header). AreRoomFor v.ports c.args.self.now.spare.items) (sym s.header) s.spare in
     made c.args.self.now _ r c.args.line c.in-Ok.kept (record { header = refl; empty = refl; here = here; others = there }) none refl (c.in-Ok.ensures.fresh all)
     (c.take_record.ensures.rest all) s
 
@@ -71,8 +71,8 @@ returns-in-Ok-insert-clause-roomy c n past room q known =
 -- the map has no place left
 pub returns-clause-stands : goal.returns-clause-stands
 returns-clause-stands c r s q =
-    let all = subst (λ (v : Header). All (IsFresh v.ports) c.args.self.now.spare.items) (sym s.header) s.spare in
-    respared c.args.self.now _ r refl refl refl c.in-Err.ensures.err (subst (λ (v : Header). All (IsFresh v.ports) c.take_record.new.spare.items) s.header (c.take_record.ensures.rest all)) s
+    let all = subst (λ (v : Header). AreRoomFor v.ports c.args.self.now.spare.items) (sym s.header) s.spare in
+    respared c.args.self.now _ r refl refl refl c.in-Err.ensures.err (subst (λ (v : Header). AreRoomFor v.ports c.take_record.new.spare.items) s.header (c.take_record.ensures.rest all)) s
 
 pub returns-clause-roomy : goal.returns-clause-roomy
 returns-clause-roomy c n past room q known =

@@ -7,10 +7,9 @@ use Rattle.ace_cache.specs.LineCache.{CachedWays}
 use Rattle.ace_cache.specs.Ways.{way_of}
 use Rattle.ace_master_state.specs.Cached.{LineHeld}
 use Rattle.ace_master_state.specs.Change.{HasPlace, change_of, changed}
-use Rattle.ace_master_state.proofs.ArrivingHeard.{arriving-heard, elsewhere-brings}
 use Rattle.ace_master_state.proofs.AsManyHeld.{place-for}
 use Rattle.ace_master_state.proofs.LineEvents.{line-heard}
-use Rattle.ace_master_state.proofs.LinesHeard.{held-elsewhere}
+use Rattle.ace_master_state.proofs.Elsewhere.{lines-elsewhere}
 use Rattle.ace_master_state.proofs.cached.Cached.hear.Goals as goal
 
 pub returns : goal.returns
@@ -37,14 +36,7 @@ returns c = λ plan past p port ace legal low s.
 
 pub returns-then-not-is_at : goal.returns-then-not-is_at
 returns-then-not-is_at c = λ plan past p port ace legal low s.
-    let h = plan.header in
     let e = c.args.event.now in
     let mine : c.port.result ≡ p = c.port.ensures ∙ port.port in
     let apart : is_at_port p e ≡ false = ap (λ q. is_at_port q e) (sym mine) ∙ sym c.is_at.ensures ∙ c.if-not-is_at.true in
-    record {
-      fits = (c.every_event_fits.ensures, s.fits);
-      ways = s.ways;
-      lines = λ l. held-elsewhere h past e legal.accepted p l (way_of c.args.self.now.cache.held l) apart (s.lines l);
-      arriving = arriving-heard h past e p c.args.self.now.arriving c.args.self.now.arriving s.arriving low
-          (elsewhere-brings h past e legal.accepted p c.args.self.now.arriving s.arriving apart);
-    }
+    lines-elsewhere plan past p e legal apart c.args.self.now c.every_event_fits.ensures low s

@@ -1,27 +1,20 @@
 use Rattle.std.proofs.Common.{◌≡◌, ◌∷◌, true, false, ◌==◌, Some, sym, ap, subst, ◌∙◌}
-use Rattle.std.proofs.lemmas.Bool.{eq-eqb, eqb-true}
+use Rattle.std.proofs.lemmas.Bool.{eqb-true}
 use Rattle.ace_event.specs.declared.event.Event.TheVariants.{Cr}
 use Rattle.ace_model.specs.Trace.{port_of}
 use Rattle.ace_model.proofs.General.Options.{is_some_and-is}
 use Rattle.ace_runs.specs.Segments.{is_at_port}
 use Rattle.ace_engine.specs.Engines.{IsLegal}
 use Rattle.ace_master_state.specs.Completions.{CompletionsStand}
-use Rattle.ace_master_state.proofs.SyncsAnswered.{answered-stay, awaits-stays, completes-elsewhere, syncs-stay}
+use Rattle.ace_master_state.proofs.SyncsAnswered.{answered-stay}
+use Rattle.ace_master_state.proofs.Elsewhere.{completions-stay}
 use Rattle.ace_master_state.proofs.completions.Completions.hear.Goals as goal
 
 pub returns-then-not-is_at : goal.returns-then-not-is_at
 returns-then-not-is_at c = λ plan past p port legal s.
     let e = c.args.event.now in
     let apart : is_at_port p e ≡ false = ap (λ q. is_at_port q e) (sym s.port) ∙ sym c.is_at.ensures ∙ c.if-not-is_at.true in
-    let same = answered-stay plan.header past e p legal.accepted (λ q resp st is there.
-    let here : is_at_port p e ≡ true = ap (is_at_port p) is ∙ eq-eqb q p there in
-    let bad : true ≡ false = sym here ∙ apart in cc) in
-    record {
-      port = s.port;
-      answered = s.answered ∙ sym (syncs-stay past e p same);
-      issued = s.issued ∙ sym (completes-elsewhere past e p apart);
-      second = s.second ∙ sym (awaits-stays past e p same);
-    }
+    completions-stay plan past p e legal apart c.args.self.now s
 
 pub returns-in-Some : goal.returns-in-Some
 returns-in-Some c = λ plan past p port legal s.

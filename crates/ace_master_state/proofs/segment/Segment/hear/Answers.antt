@@ -9,14 +9,15 @@ use Rattle.ace_runs.specs.Segments.{acts_made, is_at_port, is_for_operation, seg
 use Rattle.ace_engine.specs.Engines.{IsLegal}
 use Rattle.ace_master_state.specs.declared.segment.Segment.{Segment}
 use Rattle.ace_master_state.specs.Segment.{SegmentStands}
-use Rattle.ace_master_state.proofs.SegmentMoves.{acts-elsewhere, acts-grow, one-of-three, segment-elsewhere, segment-ends, segment-grows, two-acts-most}
+use Rattle.ace_master_state.proofs.SegmentMoves.{acts-grow, one-of-three, segment-ends, segment-grows, two-acts-most}
+use Rattle.ace_master_state.proofs.Elsewhere.{segment-stays}
 use Rattle.ace_master_state.proofs.segment.Segment.hear.Goals as goal
 
 pub returns-then-not-is_at : goal.returns-then-not-is_at
 returns-then-not-is_at c = λ plan past p legal place s.
     let e = c.args.event.now in
-    let at : is_at_port p e ≡ false = ap (λ q. is_at_port q e) (sym s.port) ∙ sym c.is_at.ensures ∙ c.if-not-is_at.true in
-    record { port = s.port; issued = s.issued ∙ sym (segment-elsewhere past e p at); acts = s.acts ∙ sym (acts-elsewhere past e p at); room = s.room }
+    let apart : is_at_port p e ≡ false = ap (λ q. is_at_port q e) (sym s.port) ∙ sym c.is_at.ensures ∙ c.if-not-is_at.true in
+    segment-stays plan past p e legal apart c.args.self.now s
 
 pub returns-then-is_retirement : goal.returns-then-is_retirement
 returns-then-is_retirement c = λ plan past p legal place s.

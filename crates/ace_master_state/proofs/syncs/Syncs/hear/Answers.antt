@@ -6,19 +6,15 @@ use Rattle.ace_model.specs.Messages.{first_waiting, is_sync_completed}
 use Rattle.ace_runs.specs.Retiring.{tells_completion}
 use Rattle.ace_runs.specs.Segments.{is_at_port}
 use Rattle.ace_master_state.specs.Syncs.{SyncsStand, is_completion, stays_complete, waits_with}
-use Rattle.ace_master_state.proofs.SyncMoves.{completed-elsewhere, completed-here, completed-more, few-unanswered, no-completion, unanswered-elsewhere, unanswered-fewer, unanswered-more, unanswered-stay, waits-elsewhere, waits-here}
+use Rattle.ace_master_state.proofs.SyncMoves.{completed-here, completed-more, few-unanswered, no-completion, unanswered-fewer, unanswered-more, unanswered-stay, waits-here}
+use Rattle.ace_master_state.proofs.Elsewhere.{syncs-unmoved}
 use Rattle.ace_master_state.proofs.syncs.Syncs.hear.Goals as goal
 
 pub returns-then-not-is_at : goal.returns-then-not-is_at
 returns-then-not-is_at c = λ plan past p port legal s.
     let e = c.args.event.now in
     let apart : is_at_port p e ≡ false = ap (λ q. is_at_port q e) (sym s.port) ∙ sym c.is_at.ensures ∙ c.if-not-is_at.true in
-    record {
-      port = s.port;
-      second = s.second ∙ sym (ap is_some (waits-elsewhere past e p apart));
-      completed = s.completed ∙ sym (completed-elsewhere past e p apart);
-      unanswered = s.unanswered ∙ sym (ap (count_by tells_completion) (unanswered-elsewhere past e p apart));
-    }
+    syncs-unmoved plan past p e legal apart c.args.self.now s
 
 pub returns-in-Ac : goal.returns-in-Ac
 returns-in-Ac c = λ plan past p port legal s.

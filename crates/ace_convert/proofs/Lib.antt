@@ -1,0 +1,5 @@
+pub mod Written
+pub mod ReaderLemmas
+pub mod ConvertLemmas
+pub mod FormReadings
+pub mod OneConversion

@@ -1,0 +1,5 @@
+pub mod Converted
+pub mod Ends
+pub mod Output
+pub mod Reading
+pub mod Spelling

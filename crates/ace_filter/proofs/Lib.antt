@@ -1,0 +1,16 @@
+mod Terms
+-- Whoever holds a line is in its set.
+pub mod Holders
+-- The queue of the lines that a port may lose, and the room that there is for it.
+pub mod Turns
+pub mod Rooms
+pub mod Issuers
+pub mod Waiting
+pub mod Snooped
+pub mod Completed
+-- What is kept of a port.
+pub mod Ports
+pub mod Watched
+-- The sets, and their bits.
+pub mod SetSteps
+pub mod PortBits

@@ -1,0 +1,7 @@
+pub mod Kept
+pub mod Waiting
+pub mod Queue
+pub mod Change
+pub mod Sets
+pub mod Port
+pub mod Filter

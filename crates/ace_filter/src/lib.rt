@@ -1,0 +1,11 @@
+//! A snoop filter: which ports may hold a line, so that the others need not be snooped.
+#![tactic(auto)]
+
+mod filter;
+pub mod laws;
+mod lines;
+mod port;
+mod queue;
+mod sets;
+
+pub use filter::Filter;

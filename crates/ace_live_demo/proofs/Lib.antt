@@ -1,0 +1,2 @@
+-- The seats that a Live hands out.
+pub mod Seats
