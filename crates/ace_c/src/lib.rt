@@ -1,0 +1,149 @@
+//! The checker for programs in C: a handle that is fed the events of a trace as they happen.
+#![tactic(auto)]
+
+mod answer;
+mod handle;
+mod header;
+mod owned;
+mod parts;
+mod range;
+mod record;
+mod session;
+
+ghost use Rattle.std.specs.Prelude.{◌≡◌, ◌≢◌, ◌↔◌, ◌⊎◌, ◌∷◌, [], ◌+◌, None, length};
+ghost use Rattle.ace_event.specs.declared.header.Header.{Header};
+ghost use Rattle.ace_event.specs.Ports.{IsHeader};
+ghost use Rattle.ace_model.specs.Trace.{Trace};
+ghost use Rattle.ace_check.specs.Run.{IsSound};
+ghost use Rattle.ace_c.specs.declared.answer.Ending.{Ending};
+ghost use Rattle.ace_c.specs.Answers.{status_of, answer_of, fine, not_open};
+ghost use Rattle.ace_c.specs.Headers.{given};
+ghost use Rattle.ace_c.specs.Records.{event_of};
+ghost use Rattle.ace_c.specs.Sessions.{IsEnding, IsEventThat};
+ghost use Rattle.ace_c.specs.Handles.{Hears, HasEnded, HasFed, session_of};
+
+use crate::answer::not_open;
+use crate::header::header_of;
+use crate::session::Session;
+pub use answer::AceAnswer;
+pub use handle::AceChecker;
+pub use record::AceEvent;
+use std::alloc::Global;
+
+/// Opens a checker of the empty trace of this version with so many ports, of which those with a bit
+/// in `ace` are ACE ports, and closes what the handle had. The status is 0, or 2 where these are no
+/// ports of a trace, or 4 where there is no memory.
+#[unsafe(no_mangle)]
+pub extern "C" fn ace_open(
+    alloc: Global,
+    checker: &mut AceChecker,
+    version: u8,
+    ports: u8,
+    ace: u32,
+) -> u8
+    ensures hears { result ≡ 0
+        → IsHeader (given version ports ace) × Hears checker.new (given version ports ace) [] }
+    ensures header { (result ≡ 2) ↔ ¬ IsHeader (given version ports ace) }
+    ensures status { (result ≡ 0) ⊎ (result ≡ 2) ⊎ (result ≡ 4) }
+    ensures closed { result ≢ 0 → session_of checker.new ≡ None }
+{
+    ace_close(alloc, checker);
+    let Some(header) = header_of(version, ports, ace) else {
+        return 2;
+    };
+    let Some(session) = Session::new(alloc, header) else {
+        return 4;
+    };
+    match Box::new(alloc, session) {
+        Ok(session) => {
+            checker.put(session);
+            0
+        }
+        Err(_) => 4,
+    }
+}
+
+/// Looks at the next event of the trace. The status is 0 where it breaks no rule, and neither did
+/// one before: then the trace so far is sound. The first that isn't 0 is the status for good. It is
+/// 6 where the handle is closed.
+#[unsafe(no_mangle)]
+pub extern "C" fn ace_feed(alloc: Global, checker: &mut AceChecker, event: &AceEvent) -> u8
+    ensures fine { (h : Header) (past : Trace) → Hears checker.old h past → result ≡ 0
+        → IsEventThat h (event_of event.now)
+        (λ e. Hears checker.new h (e ∷ past) × IsSound h (e ∷ past)) }
+    ensures ends { (h : Header) (past : Trace) → Hears checker.old h past → result ≢ 0
+        → (ending : Ending) × HasEnded checker.new h past ending
+        × IsEnding h past (event_of event.now) ending × (result ≡ status_of ending) }
+    ensures ended { (h : Header) (past : Trace) (ending : Ending)
+        → HasEnded checker.old h past ending
+        → (result ≡ status_of ending) × HasEnded checker.new h past ending }
+    ensures closed { session_of checker.old ≡ None
+        → (result ≡ 6) × (session_of checker.new ≡ None) }
+{
+    match checker.take(alloc) {
+        Some(mut session) => {
+            let status = session.feed(event);
+            checker.put(session);
+            status
+        }
+        None => 6,
+    }
+}
+
+/// Looks at the next events of the trace, up to the first that isn't fine: how many were. Where all
+/// were, the trace so far is sound; else `ace_verdict` tells why the next one wasn't.
+#[unsafe(no_mangle)]
+pub extern "C" fn ace_feed_many(
+    alloc: Global,
+    checker: &mut AceChecker,
+    events: &[AceEvent],
+) -> usize
+    ensures fed { (h : Header) (past : Trace) → Hears checker.old h past
+        → HasFed checker.new h past events.now result }
+    ensures ended { (h : Header) (past : Trace) (ending : Ending)
+        → HasEnded checker.old h past ending
+        → (result ≡ 0) × HasEnded checker.new h past ending }
+    ensures closed { session_of checker.old ≡ None
+        → (result ≡ 0) × (session_of checker.new ≡ None) }
+{
+    match checker.take(alloc) {
+        Some(mut session) => {
+            let fed = session.feed_many(events);
+            checker.put(session);
+            fed
+        }
+        None => 0,
+    }
+}
+
+/// The answer about all events that were fed.
+#[unsafe(no_mangle)]
+pub extern "C" fn ace_verdict(alloc: Global, checker: &mut AceChecker) -> AceAnswer
+    ensures fine { (h : Header) (past : Trace) → Hears checker.old h past
+        → (result ≡ fine (length past)) × Hears checker.new h past × IsSound h past }
+    ensures ended { (h : Header) (past : Trace) (ending : Ending)
+        → HasEnded checker.old h past ending
+        → (result ≡ answer_of ending (length past + 1)) × HasEnded checker.new h past ending }
+    ensures closed { session_of checker.old ≡ None
+        → (result ≡ not_open) × (session_of checker.new ≡ None) }
+{
+    match checker.take(alloc) {
+        Some(session) => {
+            let answer = session.verdict();
+            checker.put(session);
+            answer
+        }
+        None => not_open(),
+    }
+}
+
+/// Frees what the handle owns, and closes it.
+#[unsafe(no_mangle)]
+pub extern "C" fn ace_close(alloc: Global, checker: &mut AceChecker)
+    ensures { session_of checker.new ≡ None }
+{
+    match checker.take(alloc) {
+        Some(session) => drop(session),
+        None => {}
+    }
+}
