@@ -5,7 +5,7 @@ use Rattle.std.proofs.lemmas.Option.{slice_get-get_or, slice_get_within}
 use Rattle.ace_model.specs.WriteRules.{may_respond}
 use Rattle.ace_model.specs.Transactions.{is_complete}
 use Rattle.ace_filter.proofs.Terms.{B, Write, Header, Transaction, Trace, IsAccepted, is_ace, is_on, known_lines, transaction_of, outstanding, completed, acknowledgements, completed_lines, dropped_line, is_drop_of, turns_from}
-use Rattle.ace_filter.proofs.Holders.{dropping}
+use Rattle.ace_model.proofs.KeptPorts.{dropping}
 use Rattle.ace_filter.proofs.Issuers.{dropped-is, dropper-ace}
 use Rattle.ace_filter.proofs.Rooms.{AreApart, few-wait}
 use Rattle.ace_filter.proofs.Waiting.{lines-count, waits}

@@ -1,6 +1,5 @@
 mod Terms
 -- Whoever holds a line is in its set.
-pub mod Holders
 -- The queue of the lines that a port may lose, and the room that there is for it.
 pub mod Turns
 pub mod Rooms

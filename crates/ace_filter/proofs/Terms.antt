@@ -32,7 +32,7 @@ pub use Rattle.ace_model.specs.WriteRules.{ends_write_well}
 pub use Rattle.ace_portck.specs.LineMaps.{HasRoomForLines}
 pub use Rattle.ace_filter.specs.Change.{IsChange, drops, is_dropped, is_taken, takes}
 pub use Rattle.ace_filter.specs.Filter.{AreWatched, FilterStands, IsWatched, MayHear, room_of}
-pub use Rattle.ace_filter.specs.Kept.{HoldersAreKept, KeepsHolders, drops_at, drops_line, is_drop_of, is_take_of, kept_ports, may_hold, takes_at, takes_line}
+pub use Rattle.ace_model.specs.Kept.{HoldersAreKept, KeepsHolders, drops_at, drops_line, is_drop_of, is_take_of, kept_ports, may_hold, takes_at, takes_line}
 pub use Rattle.ace_filter.specs.Port.{HasRoom, IsHeard, PortStands, begun_line, line_under}
 pub use Rattle.ace_filter.specs.Queue.{QueueStands, turn_at, turns_from}
 pub use Rattle.ace_filter.specs.Sets.{LinesStand, SetsStand, set_of}

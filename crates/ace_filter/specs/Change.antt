@@ -4,7 +4,7 @@ use Rattle.ace_event.specs.declared.event.Event.{Event}
 use Rattle.ace_model.specs.Trace.{Trace, is_some_and}
 use Rattle.ace_filter.specs.declared.port.Change.{Change}
 use Rattle.ace_filter.specs.declared.port.Change.TheVariants.{Takes, Drops}
-use Rattle.ace_filter.specs.Kept.{drops_at, takes_at}
+use Rattle.ace_model.specs.Kept.{drops_at, takes_at}
 
 -- the change takes the line, drops it
 abbrev pub takes : Change → ℕ → Bool

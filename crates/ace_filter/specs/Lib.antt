@@ -1,4 +1,3 @@
-pub mod Kept
 pub mod Waiting
 pub mod Queue
 pub mod Change

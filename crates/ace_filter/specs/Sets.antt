@@ -7,7 +7,7 @@ use Rattle.ace_model.specs.Lines.{is_known, known_lines}
 use Rattle.ace_model.specs.Trace.{Trace}
 use Rattle.ace_portck.specs.LineMaps.{HasRoomForLines}
 use Rattle.ace_filter.specs.declared.sets.LineSets.{LineSets}
-use Rattle.ace_filter.specs.Kept.{kept_ports}
+use Rattle.ace_model.specs.Kept.{kept_ports}
 
 -- the bits of the line; of a line that isn't there they are 0
 abbrev pub set_of : LineSets → ℕ → ℕ

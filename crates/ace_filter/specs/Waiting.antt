@@ -8,7 +8,7 @@ use Rattle.ace_model.specs.declared.transactions.Transaction.{Transaction}
 use Rattle.ace_model.specs.Snoops.{snoops_a_line, snoops_of}
 use Rattle.ace_model.specs.Trace.{Trace, is_some_and, more}
 use Rattle.ace_model.specs.Transactions.{read_kind, transaction_of, write_kind}
-use Rattle.ace_filter.specs.Kept.{takes_line, drops_line}
+use Rattle.ace_model.specs.Kept.{takes_line, drops_line}
 
 -- the line that a snoop names, if it is a line snoop
 abbrev pub snooped_line : Snoop → Option ℕ

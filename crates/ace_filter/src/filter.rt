@@ -7,7 +7,7 @@ ghost use Rattle.ace_event.specs.declared.header.Header.{Header};
 ghost use Rattle.ace_model.specs.Lines.{known_lines};
 ghost use Rattle.ace_model.specs.Trace.{Trace};
 ghost use Rattle.ace_filter.specs.Filter.{AreWatched, FilterStands, MayHear, room_of};
-ghost use Rattle.ace_filter.specs.Kept.{kept_ports};
+ghost use Rattle.ace_model.specs.Kept.{kept_ports};
 ghost use Rattle.ace_filter.specs.Change.{IsChange};
 ghost use Rattle.ace_filter.specs.Port.{IsHeard};
 

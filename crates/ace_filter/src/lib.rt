@@ -2,7 +2,6 @@
 #![tactic(auto)]
 
 mod filter;
-pub mod laws;
 mod lines;
 mod port;
 mod queue;

@@ -6,7 +6,7 @@ ghost use Rattle.ace_codes.specs.Writes.{aw_kind_of};
 ghost use Rattle.ace_model.specs.Kinds.{is_line_read, is_line_write};
 ghost use Rattle.ace_model.specs.Snoops.{snoops_a_line};
 ghost use Rattle.ace_model.specs.Trace.{is_some_and};
-ghost use Rattle.ace_filter.specs.Kept.{takes_line, drops_line};
+ghost use Rattle.ace_model.specs.Kept.{takes_line, drops_line};
 ghost use Rattle.ace_filter.specs.Port.{begun_line, line_under};
 
 use ace_codes::{ArKind, AwKind, read_ar, read_aw};

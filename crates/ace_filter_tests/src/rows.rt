@@ -5,7 +5,7 @@ ghost use Rattle.std.specs.Prelude.{◌≡◌, true, false, reverse, ◌∷◌, 
 ghost use Rattle.ace_codes.specs.declared.state.LineState.TheVariants.{I, SC};
 ghost use Rattle.ace_event.specs.declared.event.Event.TheVariants.{Ac, Cr, S};
 ghost use Rattle.ace_rows.specs.Shorthands.{two_ace, line_a, get};
-ghost use Rattle.ace_filter.specs.Kept.{kept_ports};
+ghost use Rattle.ace_model.specs.Kept.{kept_ports};
 ghost use Rattle.ace_filter_tests.specs.Worked.{answers_i, answers_sc, evicts, snooped};
 
 /// A port is kept from the G of a ReadUnique on. Its silent transition to I doesn't take it out, since no event of the interconnect tells of it; the WK

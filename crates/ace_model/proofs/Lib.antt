@@ -16,5 +16,6 @@ pub mod Coherence
 pub mod Lines
 pub mod GrowingPlans
 pub mod Report
+pub mod KeptPorts
 -- Which transactions are halves of barriers, by their bars.
 pub mod BarrierBars

@@ -44,6 +44,7 @@ pub use Rattle.ace_model.specs.ReadRules.{ends_well, fits_kind, has_upper_bits, 
 pub use Rattle.ace_model.specs.ReadsFollow.{HasBeat, IsBeat, IsGrantOf, IsLoad, IsReadBy, ReadsFollow}
 pub use Rattle.ace_model.specs.Replies.{copy_at_answer, first_sender, memory_at_first_beat, passed_data, reply_of, sender_at}
 pub use Rattle.ace_model.specs.Shares.{fits_burst, fits_copy, fits_strobe, k11_burst, k11_data, k17_burst, k17_data, k18_line, k18_transfer, k26_memory, k26_response, lesser, line_rules, port_rules, system_rules}
+pub use Rattle.ace_model.specs.Kept.{HoldersAreKept, KeepsHolders, drops_at, drops_line, is_drop_of, is_take_of, may_hold, takes_at, takes_line}
 pub use Rattle.ace_model.specs.Lines.{add_line, has_failed_on, is_known, known_lines, names_new_line}
 pub use Rattle.ace_model.specs.SnoopRules.{answers_beside_update, answers_by_row, fits_write, full_beat, has_snoop_code, is_next_beat, k11, k12, k13, k14, k15, k16, k17, may_be_granted, may_snoop, may_snoop_for}
 pub use Rattle.ace_model.specs.Snoops.{answered, answers, answers_line, data_answers, is_snoop_on, snoop_at, snoops_a_line, snoops_of}

@@ -30,3 +30,4 @@ pub mod ExclusiveHolds
 pub mod BarrierHolds
 pub mod DvmHolds
 pub mod Plans
+pub mod Kept

@@ -15,6 +15,7 @@ ghost use Rattle.ace_model.specs.Coherent.{Coherent};
 ghost use Rattle.ace_model.specs.ExclusiveHolds.{ExclusiveHolds};
 ghost use Rattle.ace_model.specs.BarrierHolds.{BarrierHolds};
 ghost use Rattle.ace_model.specs.DvmHolds.{DvmHolds};
+ghost use Rattle.ace_model.specs.Kept.{KeepsHolders};
 
 /// By rules in order, the break that `first_break_by` computes is the first break of the events. By any rules, where it
 /// computes none, the trace is accepted.
@@ -67,4 +68,10 @@ pub fn barriers_order()
 /// to the Sync.
 pub fn a_sync_waits_for_all()
     ensures { (h : Header) (past : Trace) → IsAccepted h past → DvmHolds h past }
+{}
+
+/// In every accepted trace, at every point, the ports that are kept for a line contain each port that
+/// holds it: no holder is forgotten, so who isn't kept need not be snooped.
+pub fn kept_ports_hold_all()
+    ensures { (h : Header) (past : Trace) → IsAccepted h past → KeepsHolders h past }
 {}

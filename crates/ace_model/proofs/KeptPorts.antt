@@ -14,9 +14,9 @@
 use Rattle.std.proofs.Common.{◌≡◌, ℕ, true, false, not, ◌&&◌, nat_eq, [], ◌∷◌, Some, le_refl, refl, sym, ap, subst, ◌∙◌, inl, inr}
 use Rattle.std.proofs.lemmas.Bool.{and_from, and_parts, cases_Bool, eq-eqb, eqb-true, false_from_ne_true, or_left, or_right}
 use Rattle.ace_codes.specs.declared.kind.AwKind.TheVariants as write
-use Rattle.ace_filter.proofs.Terms.{AwKind, LineState, I, Read, Write, Event, Cr, Wk, Header, Transaction, Trace, IsAccepted, is_some_and, is_invalid, is_fetch, is_make_unique, is_line_write, ends_write, ends_write_well}
-use Rattle.ace_filter.proofs.Terms.{is_ace, is_line, is_on, is_some_on, read_kind, write_kind, ended, without, acknowledged, given, granted, outstanding, answered, answers, answers_line, is_snoop_on, state_of}
-use Rattle.ace_filter.proofs.Terms.{HoldersAreKept, KeepsHolders, drops_at, drops_line, is_drop_of, is_take_of, may_hold, takes_at, takes_line}
+use Rattle.ace_model.proofs.Terms.{AwKind, LineState, I, Read, Write, Event, Cr, Wk, Header, Transaction, Trace, IsAccepted, is_some_and, is_invalid, is_fetch, is_make_unique, is_line_write, ends_write, ends_write_well}
+use Rattle.ace_model.proofs.Terms.{is_ace, is_line, is_on, is_some_on, read_kind, write_kind, ended, without, acknowledged, given, granted, outstanding, answered, answers, answers_line, is_snoop_on, state_of}
+use Rattle.ace_model.proofs.Terms.{HoldersAreKept, KeepsHolders, drops_at, drops_line, is_drop_of, is_take_of, may_hold, takes_at, takes_line}
 use Rattle.ace_model.proofs.General.Options.{Some-injective, is_none_or-at, is_some_and-is}
 use Rattle.ace_model.proofs.Grants.Pending.{snoops}
 use Rattle.ace_model.proofs.Holders.Law.{accepted_holds}
