@@ -14,6 +14,8 @@ pub mod ByEvent
 pub mod Exclusive
 -- Where a port makes an exclusive store, it watches the line.
 pub mod Watching
+-- The outcome of a call is one of its operation's.
+pub mod Ending
 -- From one settled point to the next.
 pub mod OneCall
 -- The words of a line after stores of words.

@@ -2,6 +2,8 @@
 pub mod Stored
 -- Which lines the ports have reserved after them, and exclusive stores.
 pub mod Reserved
+-- With which outcomes a call ends.
+pub mod Ends
 -- The history of a trace, and which histories are legal.
 pub mod Histories
 -- The newest entry, as it is read off the end of a trace.

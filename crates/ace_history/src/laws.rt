@@ -15,6 +15,7 @@ ghost use Rattle.ace_model.specs.Trace.{Trace};
 ghost use Rattle.ace_runs.specs.Bursts.{onto};
 ghost use Rattle.ace_runs.specs.Follows.{Done, FollowsSoFar};
 ghost use Rattle.ace_runs.specs.Steps.{AreSteps};
+ghost use Rattle.ace_history.specs.Ends.{CanEnd};
 ghost use Rattle.ace_history.specs.Histories.{IsLegalHistory, history_of};
 ghost use Rattle.ace_history.specs.Reserved.{IsLoadedBefore};
 ghost use Rattle.ace_history.specs.Settled.{CallMade, IsSettled, is_call};
@@ -54,4 +55,12 @@ pub fn an_exclusive_store_is_exclusive()
     ensures { (plan : Plan) (history before rest : List Entry) (e : Entry) (a w word : ℕ)
         → IsLegalHistory plan history → history ≡ before ++ e ∷ rest
         → e.op ≡ Stx a w word → e.res ≡ Ok → IsLoadedBefore before e.port a }
+{}
+
+/// Each call of a legal history ends with an outcome of its operation: a load or a store is done,
+/// an exclusive store that isn't done failed, and a WriteBack that isn't done had nothing to write
+/// back.
+pub fn each_call_ends_as_its_operation_can()
+    ensures { (plan : Plan) (history : List Entry) → IsLegalHistory plan history
+        → AllByRecursion (λ (e : Entry). CanEnd e.op e.res) history }
 {}

@@ -10,6 +10,7 @@ ghost use Rattle.ace_history.specs.Stored.{is_ok};
 ghost use Rattle.ace_model.specs.declared.plans.Op.TheVariants.{Ld, Ldx, St, Stx, Wb};
 ghost use Rattle.ace_model.specs.Plans.{is_in_range, most_operations};
 ghost use Rattle.ace_runs.specs.Follows.{Done};
+ghost use Rattle.ace_live.specs.Entries.{Legal};
 ghost use Rattle.ace_live.specs.Running.{blank, setting_of};
 ghost use Rattle.ace_live.specs.Seats.{EachPort, IsCall, IsFull, LiveId, SomeSeat, Token, fresh};
 ghost use Rattle.ace_live.specs.Views.{Begins, ports_from};
@@ -107,8 +108,8 @@ impl Live {
         Ok((Live { table }, seats))
     }
 
-    /// The system, which is done. Its history is one that a seat had seen, and begins with what
-    /// each seat had seen.
+    /// The system, which is done. Its history is legal, is one that a seat had seen, and begins
+    /// with what each seat had seen.
     pub fn close(self, seats: Vec<LiveSeat>) -> System
         requires own { AllByRecursion (λ (t : Token). t.live ≡ self) seats.items }
         requires ports { (0 < self.setting.ports) × EachPort self.setting.ports seats.items }
@@ -116,6 +117,7 @@ impl Live {
         ensures setting { setting_of result ≡ self.setting }
         ensures plan { result.plan
             ≡ plan_with (blank self.setting) (history_of result.plan result.past) }
+        ensures legal { Legal self.setting (history_of result.plan result.past) }
         ensures longest { SomeSeat (λ t. history_of result.plan result.past ≡ t.seen) seats.items }
         ensures begins { AllByRecursion
             (λ (t : Token). Begins t.seen (history_of result.plan result.past)) seats.items }

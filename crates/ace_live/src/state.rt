@@ -123,12 +123,15 @@ impl LiveState {
         last_entry(self.system.trace(), port, op)
     }
 
-    /// The system, which is done, with the same history: that of the plan with these calls.
+    /// The system, which is done, with the same history: that of the plan with these calls. The
+    /// history is legal.
     pub fn end(self) -> System
         ensures value { running result ≡ self }
         ensures plan { result.plan ≡ plan_with (blank self.setting) self.history }
         ensures done { Done result.plan result.past }
+        ensures legal { IsLegalHistory (blank self.setting) self.history }
     {
+        self.system.keeps();
         self.system
     }
 }
