@@ -3,6 +3,7 @@
 ghost use Rattle.std.specs.Prelude.{◌≡◌};
 
 use ace_check::{Checker, Step};
+use ace_event::{Event, Outcome};
 use ace_fabric::System;
 use ace_live::{Full, Live, LiveSeat};
 use ace_model::PolicyWord;
@@ -110,6 +111,28 @@ fn count_both<R: Threads + Wait + Sync>(
     )
 }
 
+/// Whether the trace of two callers that count is that of right counts: word 0 has 20 at its end,
+/// and an exclusive store failed only where the other port stored after the last load of its own.
+fn is_of_20_counts(trace: &[Event]) -> bool {
+    let mut value = 0u128;
+    let mut is_disturbed = [false; 2];
+    let mut right = true;
+    for event in trace {
+        match *event {
+            Event::L { port, .. } => is_disturbed[usize::from(port % 2)] = false,
+            Event::D { port, line, .. } => {
+                value = line.words[0];
+                is_disturbed[usize::from(1 - port % 2)] = true;
+            }
+            Event::Op { port, res, .. } => {
+                right = right && (res == Outcome::Ok || is_disturbed[usize::from(port % 2)]);
+            }
+            _ => {}
+        }
+    }
+    right && value == 20
+}
+
 /// Whether two callers that count to ten each leave 20, in at most 80 calls, each with at most ten
 /// stores that fail.
 fn counts_to_20<R: Threads + Wait + Sync>(rt: &R, alloc: Global) -> Result<bool, Fail> {
@@ -117,14 +140,14 @@ fn counts_to_20<R: Threads + Wait + Sync>(rt: &R, alloc: Global) -> Result<bool,
     let one = seats.pop().ok_or("seat 1")?;
     let zero = seats.pop().ok_or("seat 0")?;
     let ((zero, first), (one, second)) = count_both(rt, &live, zero, one);
-    let (zero, word) = live.load(rt, zero, 0x40, 0);
     drop(seats);
     let system = close_both(alloc, live, zero, one)?;
-    let fine = is_fine(alloc, &system) && system.plan().view().count() <= 81;
+    let fine = is_fine(alloc, &system) && system.plan().view().count() <= 80;
+    let right = is_of_20_counts(system.trace());
     drop(system);
     let done = first.done == 10 && second.done == 10;
     let few_failed = first.failed <= 10 && second.failed <= 10;
-    Ok(fine && done && few_failed && word == Ok(20))
+    Ok(fine && right && done && few_failed)
 }
 
 /// A hundred times.
