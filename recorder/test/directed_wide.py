@@ -37,7 +37,7 @@ def broken(name, stimulus, rule, event, count, late=False):
 
 def refused(name, stimulus, says, count):
     """The recorder refuses what is behind so many events."""
-    return Case(name, stimulus, says, f'malformed line {count + 3}', f'BROKEN {count}', late=True)
+    return Case(name, stimulus, says, f'malformed line {count + 3}', f'BROKEN {count}')
 
 
 def ar(port, name, line, snoop='7', domain=1, length=3, size=4, burst=1):
@@ -77,6 +77,10 @@ NAMES = [
     broken('a grant of an identifier that another has the place of', READ + [ar(0, '11', B), 'G 0 R 7a'], 'K12', 9, 9),
     accepted('an identifier is free from the acknowledge on',
              READ[:-1] + [ar(0, '11', B), 'RK 0 UC', ar(0, '12', '600000000040'), 'G 0 R 11', 'G 0 R 12'], 11),
+    accepted('the acknowledge is that of the one which was complete first',
+             READ[:-1] + [ar(0, '11', B), 'G 0 R 11'] + beats(0, '11') + ['RK 0 UC', ar(0, '12', '600000000040'), 'G 0 R 12'], 15),
+    accepted('seventeen reads of an ACE-Lite port, one behind the other',
+             [event for n in range(17) for event in [ar(2, f'{n:x}', A, '0'), f'G 2 R {n:x}'] + beats(2, f'{n:x}')], 102),
     accepted('lines that differ in bit 47 alone', [ar(0, '1', '000000000040'), ar(0, '2', '800000000040')], 2),
     accepted('a word of a message that is wide', [SYNC, 'AC 1 123456781000 f', 'AR 1 1 123456791000 f 1 0 0 0 0 0 f'], 3),
     broken('another word than was sent', [SYNC, 'AC 1 123456791000 f'], 'K36', 2, 2),
@@ -132,11 +136,25 @@ def read_case(config, name, verdict, responses=None, last=None):
     return Case(f'a read: {name}', stimulus, None, verdict, None)
 
 
-def write_case(config, name, verdict, last=None):
+def dataless_case(config, name, verdict, data):
+    """A MakeInvalid with this at RDATA."""
+    shape = widen.Shape(config.data, config.line)
+    stimulus = [ar(2, '7', '40', 'd', length=shape.beats - 1, size=shape.code), 'G 2 R 7', f'R 2 7 0 1 {data:x}']
+    return Case(f'a dataless read: {name}', stimulus, None, verdict, None)
+
+
+def next_line_case(config):
+    """A read of the second line of a bus that is wider than a line: on the lanes of the first one stands what belongs to no one."""
+    shape = widen.Shape(config.data, config.line)
+    stimulus = [ar(0, '7', f'{0x40 + config.line:x}', length=0, size=shape.code), 'G 0 R 7', f'R 0 7 0 1 {(1 << 8 * config.line) - 1:x}', 'RK 0 UC']
+    return Case('a read of the second line of the bus', stimulus, None, 'accepted 7', None)
+
+
+def write_case(config, name, verdict, last=None, snoop='0', line=0x40):
     shape = widen.Shape(config.data, config.line)
     last = shape.beats - 1 if last is None else last
-    strobes = ((1 << shape.size) - 1) << (0x40 % shape.bus if shape.bus > config.line else 0)
-    stimulus = [aw(2, '7', '40', length=shape.beats - 1, size=shape.code)]
+    strobes = ((1 << shape.size) - 1) << (line % shape.bus if shape.bus > config.line else 0)
+    stimulus = [aw(2, '7', f'{line:x}', snoop, length=shape.beats - 1, size=shape.code)]
     stimulus += [f'W 2 {strobes:x} {int(n == last)} 0' for n in range(shape.beats)] + ['G 2 W 7', 'M 2 W 7 0', 'B 2 7 0']
     return Case(f'a write: {name}', stimulus, None, verdict, None)
 
@@ -161,7 +179,9 @@ def beat_cases(config):
     """Errors and last bits on the beats of a configuration."""
     bus, snoop = widen.Shape(config.data, config.line), widen.Shape(config.snoop, config.line)
     cases = [read_case(config, 'as it should be', 'accepted 7'), write_case(config, 'as it should be', 'accepted 8'),
-             answer_case(config, 'as it should be', 'accepted 15')]
+             write_case(config, 'a WriteLineUnique', 'accepted 8', snoop='1', line=0x40 + config.line),
+             dataless_case(config, 'as it should be', 'accepted 3', 0),
+             dataless_case(config, 'a bit on the highest lane', 'refused event 3: K20', 1 << (config.data - 1)), answer_case(config, 'as it should be', 'accepted 15')]
     for beat in some(bus.beats):
         cases.append(read_case(config, f'SLVERR at beat {beat}', f'refused event {3 + event_at(bus, beat)}: K2', {beat: 2}))
         if beat:
@@ -171,6 +191,8 @@ def beat_cases(config):
         cases.append(write_case(config, f'WLAST at beat {beat}', f'refused event {2 + last_at(bus, beat)}: K11', beat))
     for beat in some(snoop.beats - 1):
         cases.append(answer_case(config, f'CDLAST at beat {beat}', f'refused event {12 + last_at(snoop, beat)}: K17', beat))
+    if config.data > 8 * config.line:
+        cases.append(next_line_case(config))
     cases.append(read_case(config, 'no RLAST', 'refused event 6: K18', None, 99))
     cases.append(write_case(config, 'no WLAST', 'refused event 5: K11', 99))
     cases.append(answer_case(config, 'no CDLAST', 'refused event 15: K17', 99))

@@ -19,7 +19,7 @@ CONFIGS = {config.name: config for config in (
     widen.Config('plain', 48, 8, 128, leave=1),
     widen.Config('narrow', 64, 16, 32, 64),
     widen.Config('wide', 48, 8, 256, 512),
-    widen.Config('lines32', 48, 8, 128, 64, line=32),
+    widen.Config('lines32', 48, 8, 64, 128, line=32),
     widen.Config('lines16', 40, 6, 256, 128, line=16),
     widen.Config('bus512', 48, 8, 512, 32, leave=2),
 )}

@@ -453,6 +453,9 @@ class Widen:
         memory = [word for word in self.events if word[0] == 'MEM']
         if memory != self.events[:len(memory)]:
             raise Cannot('memory is opened late')
+        opened = [int(word[1], 16) for word in memory]
+        if opened != sorted(set(opened)) or any(address % 64 for address in opened):
+            raise Cannot('memory is opened in another order, or inside a line')
         for word in memory:
             self.real_line(word[1])
         for word in sorted(memory, key=lambda word: self.lines[int(word[1], 16)]):
