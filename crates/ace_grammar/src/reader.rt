@@ -23,7 +23,7 @@ pub struct StartErr<'a, S: Source> {
     pub source: &'a mut S,
 }
 
-/// Reads a trace from a source. It takes up to 16,384 bytes at once, and no memory for an event.
+/// Reads a trace from a source. It takes up to 65,536 bytes at once, and no memory for an event.
 #[derive(Drop)]
 pub struct Reader<'a, S: Source> {
     lines: LineReader<'a, S>,

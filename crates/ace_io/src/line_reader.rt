@@ -4,6 +4,7 @@ ghost use Rattle.std.specs.Io.KnownBytes.{Consumes, IsAtEnd};
 ghost use Rattle.ace_io.specs.Faults.{HasCause};
 ghost use Rattle.ace_io.specs.Lanes.{first_set};
 ghost use Rattle.ace_io.specs.Line.{HasNoLf, IsHeldLine, CutsHeld, CutsPiece, CutsLine, IsPending};
+ghost use Rattle.ace_io.specs.declared.line_reader.TheConstants.{BUFFER_SIZE};
 
 use crate::{Failed, LineBuf, LineEnd, NoMemory, Source};
 use std::alloc::Global;
@@ -13,7 +14,7 @@ use std::simd::prelude::*;
 const LINE_LIMIT: usize = 256;
 
 /// How many bytes are asked of the source at once.
-const BUFFER_SIZE: usize = 16384;
+const BUFFER_SIZE: usize = 65536;
 
 /// How many bytes are looked at together.
 const LANES: usize = 64;
@@ -85,7 +86,7 @@ fn find_lf(piece: &[u8]) -> Option<usize>
     find_lf_after(piece, at)
 }
 
-/// Cuts the bytes of a source into lines. It asks for up to 16,384 bytes at once, and keeps what no line has yet.
+/// Cuts the bytes of a source into lines. It asks for up to 65,536 bytes at once, and keeps what no line has yet.
 #[derive(Drop)]
 pub struct LineReader<'a, S: Source> {
     source: &'a mut S,
@@ -93,7 +94,7 @@ pub struct LineReader<'a, S: Source> {
     start: usize,
     end: usize,
     ghost start_in_range: { start ≤ end },
-    ghost end_in_range: { end ≤ 16384 },
+    ghost end_in_range: { end ≤ BUFFER_SIZE },
 }
 
 impl<'a, S: Source> LineReader<'a, S> {
