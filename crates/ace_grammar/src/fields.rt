@@ -60,22 +60,6 @@ fn look_up(byte: u8) -> u8
     DIGITS[byte as usize]
 }
 
-/// The number that these digits write, of which there are at most 16.
-#[inline(always)]
-fn short_number_of(digits: &[u8]) -> Option<u64>
-    requires { length digits.now ≤ 16 }
-    ensures { result ≡ digits_onto 0 digits.now }
-{
-    let mut number: u64 = 0;
-    let mut seen = 0;
-    for byte in digits {
-        let digit = look_up(*byte);
-        seen |= digit;
-        number = number.wrapping_mul(16).wrapping_add(u64::from(digit));
-    }
-    (seen < 16).then_some(number)
-}
-
 /// The value of each of 16 digits, and for each byte that is none a number that is not below 16.
 #[inline(always)]
 fn entries_of(digits: &[u8]) -> u8x16
@@ -127,6 +111,100 @@ fn number_of_16(digits: &[u8]) -> Option<u64>
     }
 }
 
+/// The value of each of eight digits, and for each byte that is none a number that is not below 16.
+#[inline(always)]
+fn eight_entries_of(digits: &[u8]) -> u8x8
+    requires { length digits.now ≡ 8 }
+    ensures { HaveEntries digits.now result }
+{
+    let bytes = u8x8::from_slice(digits);
+    let decimal = bytes - u8x8::splat(b'0');
+    let letter = bytes - u8x8::splat(b'a');
+    let other = letter
+        .simd_lt(u8x8::splat(6))
+        .select(letter + u8x8::splat(10), u8x8::splat(255));
+    decimal.simd_lt(u8x8::splat(10)).select(decimal, other)
+}
+
+/// Whether all of them are digits.
+#[inline(always)]
+fn are_eight_entries(entries: u8x8) -> bool
+    requires { length entries ≡ 8 }
+    ensures { result ≡ are_entries entries }
+{
+    entries.simd_ge(u8x8::splat(16)).to_bitmask() == 0
+}
+
+/// The number of eight digits.
+#[inline(always)]
+fn pack_eight(entries: u8x8) -> u32
+    requires len { length entries ≡ 8 }
+    requires digits { IsTrue (are_entries entries) }
+    ensures { result ≡ entries_onto 0 entries }
+{
+    let high: u8x4 = entries.swizzle([0, 2, 4, 6]);
+    let low: u8x4 = entries.swizzle([1, 3, 5, 7]);
+    let pairs = high * u8x4::splat(16) + low;
+    u32::from_be_bytes(pairs.to_array())
+}
+
+/// The number that eight digits write.
+#[inline(always)]
+fn number_of_8(digits: &[u8]) -> Option<u64>
+    requires { length digits.now ≡ 8 }
+    ensures { result ≡ digits_onto 0 digits.now }
+{
+    let entries = eight_entries_of(digits);
+    if are_eight_entries(entries) {
+        Some(u64::from(pack_eight(entries)))
+    } else {
+        None
+    }
+}
+
+/// The number that these digits write, of which there are at most 16, one by one.
+#[inline(always)]
+fn number_one_by_one(digits: &[u8]) -> Option<u64>
+    requires { length digits.now ≤ 16 }
+    ensures { result ≡ digits_onto 0 digits.now }
+{
+    let mut number: u64 = 0;
+    let mut seen = 0;
+    for byte in digits {
+        let digit = look_up(*byte);
+        seen |= digit;
+        number = number.wrapping_mul(16).wrapping_add(u64::from(digit));
+    }
+    (seen < 16).then_some(number)
+}
+
+/// The number that one digit writes, the quicker for one below 10.
+#[inline(always)]
+fn number_of_1(digits: &[u8]) -> Option<u64>
+    requires { length digits.now ≡ 1 }
+    ensures { result ≡ digits_onto 0 digits.now }
+{
+    match digit_of(digits[0]) {
+        Some(digit) => Some(u64::from(digit)),
+        None => None,
+    }
+}
+
+/// The number that these digits write, of which there are at most 16. How many there are, and the most that the number may be,
+/// which is known where this is compiled, say which way is the quicker.
+#[inline(always)]
+fn short_number_of(digits: &[u8], most: u64) -> Option<u64>
+    requires { length digits.now ≤ 16 }
+    ensures { result ≡ digits_onto 0 digits.now }
+{
+    match digits.len() {
+        1 if most < 10 => number_of_1(digits),
+        8 => number_of_8(digits),
+        16 => number_of_16(digits),
+        _ => number_one_by_one(digits),
+    }
+}
+
 #[tactic(auto, unfolding(crate::specs::Fields::space_at))]
 #[inline(always)]
 fn take_space(bytes: &[u8]) -> Option<&[u8]>
@@ -149,7 +227,7 @@ fn take_digits(bytes: &[u8], count: usize, most: u64) -> Option<(u64, &[u8])>
         return None;
     }
     let (digits, rest) = bytes.split_at(count);
-    let number = short_number_of(digits)?;
+    let number = short_number_of(digits, most)?;
     if number > most {
         return None;
     }

@@ -75,6 +75,7 @@ pub fn read_r(bytes: &[u8], version: u8, event: &mut Event) -> Option<()>
 
 /// The record `RK`.
 #[tactic(auto, unfolding(crate::specs::Records::rk_fields))]
+#[inline(always)]
 pub fn read_rk(bytes: &[u8], version: u8, event: &mut Event) -> Option<()>
     ensures event { option_map (λ _. event.new) result ≡ option_map rk_event (rk_fields version bytes.now) }
     ensures stays { result ≡ None → event.new ≡ event.old }
@@ -149,6 +150,7 @@ pub fn read_b(bytes: &[u8], version: u8, event: &mut Event) -> Option<()>
 
 /// The record `WK`.
 #[tactic(auto, unfolding(crate::specs::Records::wk_fields))]
+#[inline(always)]
 pub fn read_wk(bytes: &[u8], version: u8, event: &mut Event) -> Option<()>
     ensures event { option_map (λ _. event.new) result ≡ option_map wk_event (wk_fields version bytes.now) }
     ensures stays { result ≡ None → event.new ≡ event.old }
@@ -179,6 +181,7 @@ pub fn read_ac(bytes: &[u8], version: u8, event: &mut Event) -> Option<()>
 
 /// The record `CR`.
 #[tactic(auto, unfolding(crate::specs::Records::cr_fields))]
+#[inline(always)]
 pub fn read_cr(bytes: &[u8], version: u8, event: &mut Event) -> Option<()>
     ensures event { option_map (λ _. event.new) result ≡ option_map cr_event (cr_fields version bytes.now) }
     ensures stays { result ≡ None → event.new ≡ event.old }
@@ -248,6 +251,7 @@ pub fn read_m(bytes: &[u8], version: u8, event: &mut Event) -> Option<()>
 
 /// The record `S`.
 #[tactic(auto, unfolding(crate::specs::Records::s_fields))]
+#[inline(always)]
 pub fn read_s(bytes: &[u8], version: u8, event: &mut Event) -> Option<()>
     ensures event { option_map (λ _. event.new) result ≡ option_map s_event (s_fields version bytes.now) }
     ensures stays { result ≡ None → event.new ≡ event.old }
@@ -309,6 +313,7 @@ pub fn read_d(bytes: &[u8], version: u8, event: &mut Event) -> Option<()>
 
 /// The record `OP`.
 #[tactic(auto, unfolding(crate::specs::Records::op_fields))]
+#[inline(always)]
 pub fn read_op(bytes: &[u8], version: u8, event: &mut Event) -> Option<()>
     ensures event { option_map (λ _. event.new) result ≡ option_map op_event (op_fields version bytes.now) }
     ensures stays { result ≡ None → event.new ≡ event.old }

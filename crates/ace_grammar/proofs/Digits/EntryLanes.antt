@@ -1,5 +1,5 @@
 -- Digits side by side.
-use Rattle.std.proofs.Common.{◌≡◌, ℕ, suc, ◌+◌, ◌*◌, ◌%◌, ◌^◌, ◌<◌, cond, eqb, leb, nat_lt, Bool, true, List, [], ◌∷◌, map, length, get_or, replicate, Fits, w8, Some, None, refl, sym, ap, ◌∙◌, arith, inl, inr}
+use Rattle.std.proofs.Common.{◌≡◌, ℕ, suc, ◌+◌, ◌*◌, ◌%◌, ◌^◌, ◌<◌, ◌≤◌, cond, eqb, leb, nat_lt, Bool, true, List, [], ◌∷◌, map, length, get_or, replicate, Fits, w8, Some, None, refl, sym, ap, ◌∙◌, arith, inl, inr}
 use Rattle.std.proofs.lemmas.Bool.{cases_lt, cases_eq, and_parts, eq-eqb, ne_eqb, lt-ltb, le-ltb, le-leb, lt-leb, ltb-true}
 use Rattle.std.proofs.lemmas.Simd.{mask_l-mod, tops_compared, zip2_splat_left}
 use Rattle.std.proofs.lemmas.List.{length-map}
@@ -40,11 +40,11 @@ no_mark (entry ∷ entries) =
       | inr high ↦ rw (le-leb 16 entry high, le-ltb entry 16 high) (ne_eqb _ 0 (λ e. omega (arith, e)))
     ]
 
-pub all_entries : (entries : List ℕ) → length entries ≡ 16
-    → eqb (mask_l (map (top 7) (zip2 (λ a b. cond (leb a b) 255 0) (replicate 16 16) entries)) % 2 ^ 64) 0 ≡ are_entries entries
-all_entries entries len =
-    let marks : map (top 7) (zip2 (λ a b. cond (leb a b) 255 0) (replicate 16 16) entries) ≡ map (λ e. leb 16 e) entries =
-    tops_compared w8 leb (replicate 16 16) entries ∙ zip2_splat_left leb 16 16 entries len in
+pub all_entries : (count : ℕ) (entries : List ℕ) → length entries ≡ count → count ≤ 64
+    → eqb (mask_l (map (top 7) (zip2 (λ a b. cond (leb a b) 255 0) (replicate count 16) entries)) % 2 ^ 64) 0 ≡ are_entries entries
+all_entries count entries len few =
+    let marks : map (top 7) (zip2 (λ a b. cond (leb a b) 255 0) (replicate count 16) entries) ≡ map (λ e. leb 16 e) entries =
+    tops_compared w8 leb (replicate count 16) entries ∙ zip2_splat_left leb 16 count entries len in
     ap (λ l. eqb (mask_l l % 2 ^ 64) 0) marks
     ∙ ap (λ m. eqb m 0) (mask_l-mod (map (λ e. leb 16 e) entries) 64 (omega (arith, length-map {A = ℕ} {B = Bool}, len)))
     ∙ no_mark entries
@@ -84,6 +84,19 @@ sixteen P of (a ∷ b ∷ c ∷ d ∷ e ∷ f ∷ g ∷ h ∷ i ∷ j ∷ k ∷ 
 sixteen P of (a ∷ b ∷ c ∷ d ∷ e ∷ f ∷ g ∷ h ∷ i ∷ j ∷ k ∷ l ∷ m ∷ n ∷ o ∷ []) len = absurd (omega (arith, len))
 sixteen P of (a ∷ b ∷ c ∷ d ∷ e ∷ f ∷ g ∷ h ∷ i ∷ j ∷ k ∷ l ∷ m ∷ n ∷ o ∷ p ∷ []) len = of a b c d e f g h i j k l m n o p
 sixteen P of (a ∷ b ∷ c ∷ d ∷ e ∷ f ∷ g ∷ h ∷ i ∷ j ∷ k ∷ l ∷ m ∷ n ∷ o ∷ p ∷ q ∷ rest) len = absurd (omega (arith, len))
+
+-- a list of eight
+pub eight : (P : List ℕ → Type 0) → ((a b c d e f g h : ℕ) → P (a ∷ b ∷ c ∷ d ∷ e ∷ f ∷ g ∷ h ∷ [])) → (l : List ℕ) → length l ≡ 8 → P l
+eight P of [] len = absurd (omega (arith, len))
+eight P of (a ∷ []) len = absurd (omega (arith, len))
+eight P of (a ∷ b ∷ []) len = absurd (omega (arith, len))
+eight P of (a ∷ b ∷ c ∷ []) len = absurd (omega (arith, len))
+eight P of (a ∷ b ∷ c ∷ d ∷ []) len = absurd (omega (arith, len))
+eight P of (a ∷ b ∷ c ∷ d ∷ e ∷ []) len = absurd (omega (arith, len))
+eight P of (a ∷ b ∷ c ∷ d ∷ e ∷ f ∷ []) len = absurd (omega (arith, len))
+eight P of (a ∷ b ∷ c ∷ d ∷ e ∷ f ∷ g ∷ []) len = absurd (omega (arith, len))
+eight P of (a ∷ b ∷ c ∷ d ∷ e ∷ f ∷ g ∷ h ∷ []) len = of a b c d e f g h
+eight P of (a ∷ b ∷ c ∷ d ∷ e ∷ f ∷ g ∷ h ∷ i ∷ rest) len = absurd (omega (arith, len))
 
 -- the first digit, and the others
 pub first_entry : (entry : ℕ) (entries : List ℕ) → IsTrue (are_entries (entry ∷ entries)) → (entry < 16) × IsTrue (are_entries entries)

@@ -1,5 +1,5 @@
 -- Hexadecimal digits of a number.
-use Rattle.std.proofs.Common.{◌≡◌, ℕ, ◌+◌, ◌*◌, ◌%◌, ◌^◌, ◌<◌, ◌≤◌, cond, nat_lt, bit_or, inl, inr, List, length, get_or, drop, Option, Some, None, arith, refl, sym, ap, ◌∙◌, add-one, drop-cons}
+use Rattle.std.proofs.Common.{◌≡◌, ℕ, ◌+◌, ◌*◌, ◌%◌, ◌^◌, ◌<◌, ◌≤◌, cond, nat_lt, bit_or, inl, inr, List, [], ◌∷◌, length, get_or, drop, Option, Some, None, arith, refl, sym, ap, ◌∙◌, add-one, drop-cons}
 use Rattle.std.proofs.lemmas.List.{drop_all}
 use Rattle.std.proofs.lemmas.Bool.{cases_lt, cond-true, cond-false, lt-ltb, le-ltb}
 use Rattle.std.proofs.lemmas.Nat.{le_or_l, le_or_r, or_lt}
@@ -85,3 +85,14 @@ read_all seen number i bytes h so_far =
       | inl a ↦ ap (λ test. then_some test number) (lt-ltb seen 16 a) ∙ is_done number i bytes _ h (so_far.told a)
       | inr a ↦ ap (λ test. then_some test number) (le-ltb seen 16 a) ∙ so_far.off a
     ]
+
+single : (o : Option ℕ) → option_and_then (λ digit. Some (0 * 16 + digit)) o ≡ o
+single None = refl
+single (Some digit) = ap (λ n. Some n) (omega arith)
+
+-- the number of one digit is its value
+pub one_digit : (bytes : List ℕ) → length bytes ≡ 1 → digits_onto 0 bytes ≡ digit_of (get_or bytes 0 0)
+unfolding digits_onto
+one_digit [] len = absurd (omega (arith, len))
+one_digit (byte ∷ []) len = single (digit_of byte)
+one_digit (byte ∷ more ∷ rest) len = absurd (omega (arith, len))

@@ -1,5 +1,6 @@
+use Rattle.std.proofs.Common.{arith}
 use Rattle.ace_grammar.proofs.Digits.EntryLanes.{all_entries}
 use Rattle.ace_grammar.proofs.fields.are_entries.Goals as goal
 
 pub returns : goal.returns
-returns c = all_entries c.args.entries c.requires
+returns c = all_entries 16 c.args.entries c.requires (omega arith)

@@ -1,5 +1,5 @@
 use Rattle.ace_grammar.proofs.Digits.OneByOne.{read_more, read_all}
-use Rattle.ace_grammar.proofs.fields.short_number_of.Goals as goal
+use Rattle.ace_grammar.proofs.fields.number_one_by_one.Goals as goal
 
 pub loop-byte-preserved : goal.loop-byte-preserved
 loop-byte-preserved c = rw c.from.ensures (read_more _ _ _ _ _ c.loop-byte-test.true c.requires c.look_up-digit.ensures c.loop-byte.invariant)
