@@ -8,3 +8,4 @@ pub mod Readings
 pub mod Windows
 pub mod Taken
 pub mod Progress
+pub mod WordHalves

@@ -9,7 +9,7 @@ use Rattle.ace_io.specs.Line.{in_front}
 use Rattle.ace_bin.proofs.FieldBytes.{pieces}
 
 -- the front of a buffer behind which a piece was written
-from_first : (buffer into : List ℕ) (end count room : ℕ) → end ≤ length buffer → count ≤ length into
+pub from_first : (buffer into : List ℕ) (end count room : ℕ) → end ≤ length buffer → count ≤ length into
     → take (end + count) (put_mid end room buffer into) ≡ take end buffer ++ take count into
 from_first buffer into end count room within fits =
     let post : List ℕ = drop room (drop end buffer) in

@@ -1,5 +1,5 @@
 -- What a reader of a binary trace has read, and what it has before it.
-use Rattle.std.specs.Prelude.{◌≡◌, ◌≤◌, ℕ, ◌+◌, List, [], ◌∷◌, ◌++◌, length, Option, None, Some, Result, Ok, Err}
+use Rattle.std.specs.Prelude.{◌≡◌, ◌≤◌, ℕ, ◌+◌, List, [], ◌∷◌, ◌++◌, length, Option, None, Some, Result, Ok, Err, Bool, true, false}
 use Rattle.std.specs.Borrow.{MutBor}
 use Rattle.std.specs.Io.KnownBytes.{Consumes}
 use Rattle.std.specs.List.{AllByRecursion}
@@ -55,6 +55,14 @@ abbrev pub lasting : Result (Option Event) BinErr → Option (Result (Option Eve
 lasting (Ok (Some event)) = None
 lasting (Ok None) = Some (Ok None)
 lasting (Err error) = Some (Err error)
+
+-- The answer of a reader that says alone whether it gave an event, by that, the event that stands in the place then, and the
+-- answer that it gives for good: where it gave none, that answer.
+abbrev pub given : Bool → Event → Option (Result (Option Event) BinErr)
+    → Result (Option Event) BinErr
+given true event last = Ok (Some event)
+given false event None = Ok None
+given false event (Some answer) = answer
 
 -- how many events were given after an answer
 abbrev pub count_after : ℕ → Result (Option Event) BinErr → ℕ

@@ -7,6 +7,7 @@ mod fields;
 mod finding;
 mod header;
 pub mod laws;
+mod put_fields;
 mod put_records;
 mod reader;
 mod reason;

@@ -29,41 +29,7 @@ fn is_tag(version: u8, tag: u8) -> bool
     1 <= tag && tag <= last
 }
 
-/// The records of the read channels and the first ones of the write channels.
-#[inline(always)]
-fn read_first(tag: u8, bytes: &[u8], version: u8, event: &mut Event) -> Result<usize, BinReason>
-    requires some { 1 ≤ tag }
-    requires few { tag ≤ 5 }
-    ensures event { IsReadAs version tag bytes.now event.new result }
-    ensures stays { OnErr result (event.new ≡ event.old) }
-{
-    match tag {
-        0x01 => read_ar(bytes, version, event),
-        0x02 => read_r(bytes, version, event),
-        0x03 => read_rk(bytes, version, event),
-        0x04 => read_aw(bytes, version, event),
-        _ => read_w(bytes, version, event),
-    }
-}
-
-/// The last ones of the write channels, and those of the snoop channels.
-#[inline(always)]
-fn read_second(tag: u8, bytes: &[u8], version: u8, event: &mut Event) -> Result<usize, BinReason>
-    requires some { 6 ≤ tag }
-    requires few { tag ≤ 10 }
-    ensures event { IsReadAs version tag bytes.now event.new result }
-    ensures stays { OnErr result (event.new ≡ event.old) }
-{
-    match tag {
-        0x06 => read_b(bytes, version, event),
-        0x07 => read_wk(bytes, version, event),
-        0x08 => read_ac(bytes, version, event),
-        0x09 => read_cr(bytes, version, event),
-        _ => read_cd(bytes, version, event),
-    }
-}
-
-/// Those of the interconnect, and of what a port does on its own.
+/// The records of the interconnect, and of what a port does on its own.
 #[inline(always)]
 fn read_third(tag: u8, bytes: &[u8], version: u8, event: &mut Event) -> Result<usize, BinReason>
     requires some { 11 ≤ tag }
@@ -83,7 +49,26 @@ fn read_third(tag: u8, bytes: &[u8], version: u8, event: &mut Event) -> Result<u
     }
 }
 
-/// Reads the fields behind a tag of the version into their place, and says how many bytes they have.
+/// Those, the last ones of the write channels, and those of the snoop channels.
+#[inline(always)]
+fn read_second(tag: u8, bytes: &[u8], version: u8, event: &mut Event) -> Result<usize, BinReason>
+    requires some { 6 ≤ tag }
+    requires few { tag ≤ 17 }
+    requires mem { tag ≡ 17 → version ≢ 1 }
+    ensures event { IsReadAs version tag bytes.now event.new result }
+    ensures stays { OnErr result (event.new ≡ event.old) }
+{
+    match tag {
+        0x06 => read_b(bytes, version, event),
+        0x07 => read_wk(bytes, version, event),
+        0x08 => read_ac(bytes, version, event),
+        0x09 => read_cr(bytes, version, event),
+        0x0a => read_cd(bytes, version, event),
+        _ => read_third(tag, bytes, version, event),
+    }
+}
+
+/// All of them. Each asks for its tags, and hands the others on, so that this is compiled as one choice among all tags.
 #[inline(always)]
 fn read_fields(tag: u8, bytes: &[u8], version: u8, event: &mut Event) -> Result<usize, BinReason>
     requires some { 1 ≤ tag }
@@ -92,12 +77,13 @@ fn read_fields(tag: u8, bytes: &[u8], version: u8, event: &mut Event) -> Result<
     ensures event { IsReadAs version tag bytes.now event.new result }
     ensures stays { OnErr result (event.new ≡ event.old) }
 {
-    if tag <= 0x05 {
-        read_first(tag, bytes, version, event)
-    } else if tag <= 0x0a {
-        read_second(tag, bytes, version, event)
-    } else {
-        read_third(tag, bytes, version, event)
+    match tag {
+        0x01 => read_ar(bytes, version, event),
+        0x02 => read_r(bytes, version, event),
+        0x03 => read_rk(bytes, version, event),
+        0x04 => read_aw(bytes, version, event),
+        0x05 => read_w(bytes, version, event),
+        _ => read_second(tag, bytes, version, event),
     }
 }
 

@@ -2,11 +2,12 @@
 ghost use Rattle.std.specs.Prelude.{◌≡◌, ◌<◌, ◌≤◌, ◌+◌, ◌-◌, [], List, Option, ℕ, length, take, drop, IfOk, OnErr, IsTrue, false};
 ghost use Rattle.std.specs.Io.KnownBytes.{Consumes, IsAtEnd};
 ghost use Rattle.ace_io.specs.Faults.{HasCause};
+ghost use Rattle.ace_bin.specs.declared.window.TheConstants.{BUFFER_SIZE};
 
 use ace_io::{Failed, Source};
 
 /// How many bytes are held at most.
-const BUFFER_SIZE: usize = 16384;
+const BUFFER_SIZE: usize = 65536;
 
 /// The most bytes of a record, with its tag.
 const RECORD_LIMIT: usize = 79;
@@ -14,7 +15,7 @@ const RECORD_LIMIT: usize = 79;
 /// Moves the bytes from `start` to `end`, of which there are fewer than those of the longest record, to the front.
 fn move_to_front(buffer: &mut [u8; BUFFER_SIZE], start: usize, end: usize)
     requires order { start ≤ end }
-    requires within { end ≤ 16384 }
+    requires within { end ≤ BUFFER_SIZE }
     requires few { end - start < 79 }
     ensures { take (end - start) buffer.new ≡ take (end - start) (drop start buffer.old) }
 {
@@ -32,7 +33,7 @@ pub struct Window<'a, S: Source> {
     start: usize,
     end: usize,
     ghost start_in_range: { start ≤ end },
-    ghost end_in_range: { end ≤ 16384 },
+    ghost end_in_range: { end ≤ BUFFER_SIZE },
 }
 
 impl<'a, S: Source> Window<'a, S> {

@@ -25,6 +25,12 @@ const SECOND_HEADER: Header = Header {
     ace: 0x1_000f,
 };
 
+/// Some event, in a place where others are put.
+const PLACE: Event = Event::Rk {
+    port: 0,
+    st: LineState::I,
+};
+
 const FIRST: &[u8] = b"ACEB\x01\x01\x00\x00\x00\x01";
 
 const SECOND: &[u8] = b"ACEB\x02\x11\x00\x01\x00\x0f";
@@ -35,10 +41,11 @@ fn reading<S: Source>(source: &mut S) -> (u8, Result<(), BinErr>) {
         Ok(reader) => reader,
         Err(failed) => return (0, Err(failed.error)),
     };
+    let mut event = PLACE;
     let mut count: u8 = 0;
     for _ in 0..8 {
-        match reader.next() {
-            Ok(Some(_)) => count = count.saturating_add(1),
+        match reader.next_into(&mut event) {
+            Ok(Some(())) => count = count.saturating_add(1),
             Ok(None) => return (count, Ok(())),
             Err(error) => return (count, Err(error)),
         }
@@ -113,9 +120,11 @@ fn is_written(alloc: Global, header: &Header, front: &[u8], event: &Event, recor
 fn is_read<S: Source>(source: &mut S, header: &Header, event: &Event) -> bool {
     match BinReader::start(source) {
         Ok(mut reader) => {
+            let mut place = PLACE;
             reader.header() == *header
                 && reader.next() == Ok(Some(*event))
                 && reader.next() == Ok(None)
+                && !reader.gives(&mut place)
                 && reader.next() == Ok(None)
         }
         Err(_) => false,

@@ -2,6 +2,7 @@ use Rattle.std.proofs.Common.{◌-◌, ◌≤◌, length, take, arith, ap, ltb-t
 use Rattle.std.proofs.lemmas.Grind.{common_steps}
 use Rattle.std.proofs.lemmas.List.{length-take}
 use Rattle.ace_bin.specs.Window.{held}
+use Rattle.ace_bin.specs.declared.window.TheConstants.{BUFFER_SIZE}
 use Rattle.ace_bin.proofs.Windows.{more_held, same_held, more_kept, same_kept}
 use Rattle.ace_bin.proofs.window.Window.more.Goals as goal
 
@@ -19,7 +20,7 @@ returns-in-Ok-clause-more g c = λ is.
     let within : m.end ≤ length m.buffer = grind (arith, common_steps) in
     omega (
       arith,
-      ap length (more_held m.buffer c.take.new.into m.start m.end c.in-Ok.count (16384 - m.end) c.make_room.ensures.start within c.in-Ok.ensures.bytes.fits),
+      ap length (more_held m.buffer c.take.new.into m.start m.end c.in-Ok.count (BUFFER_SIZE - m.end) c.make_room.ensures.start within c.in-Ok.ensures.bytes.fits),
       length-append (held m) (take c.in-Ok.count c.take.new.into),
       length-take c.in-Ok.count c.take.new.into,
       ap length c.make_room.ensures.held,

@@ -10,4 +10,4 @@ returns-in_err-give_over-clause-bytes g c = λ before bytes so_far.
 pub returns-clause-bytes : goal.returns-clause-bytes
 returns-clause-bytes g c = λ before bytes so_far.
     record_added _ before bytes (event_bytes c.args.event.now) c.give_over.new.self _ (c.give_over.ensures.bytes before bytes so_far) c.in_ok-give_over.ensures.failed refl refl
-    c.push_event.ensures.value
+    c.push_event.ensures
