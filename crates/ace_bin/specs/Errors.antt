@@ -58,7 +58,8 @@ IsFront version bytes event (fronts.Malformed reason) =
 IsFront version bytes event fronts.Cut = HoldsNoRecord version bytes
 
 -- the answer of a function that puts the next event in a place, by the event that stands there then
-abbrev pub with_event : {A : Type 0} → Event → Result (Option A) BinErr → Result (Option Event) BinErr
+abbrev pub with_event : {A : Type 0} → Event → Result (Option A) BinErr
+    → Result (Option Event) BinErr
 with_event event (Ok (Some put)) = Ok (Some event)
 with_event event (Ok None) = Ok None
 with_event event (Err error) = Err error

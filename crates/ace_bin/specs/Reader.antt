@@ -56,8 +56,8 @@ lasting (Ok (Some event)) = None
 lasting (Ok None) = Some (Ok None)
 lasting (Err error) = Some (Err error)
 
--- The answer of a reader that says alone whether it gave an event, by that, the event that stands in the place then, and the
--- answer that it gives for good: where it gave none, that answer.
+-- The answer of a reader that says alone whether it gave an event, by that, the event that stands
+-- in the place then, and the answer that it gives for good: where it gave none, that answer.
 abbrev pub given : Bool → Event → Option (Result (Option Event) BinErr)
     → Result (Option Event) BinErr
 given true event last = Ok (Some event)

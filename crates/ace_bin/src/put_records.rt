@@ -1,5 +1,5 @@
-// The records of events, and the header, put at the front of some bytes: a function for each record,
-// which says how many bytes it has.
+// The records of events, and the header, put at the front of some bytes: a function for each
+// record, which says how many bytes it has.
 ghost use Rattle.std.specs.Prelude.{◌≡◌, ◌≤◌, length, take};
 ghost use Rattle.ace_event.specs.declared.event.Event.TheVariants.{Ar, R, Rk, Aw, W, B, Wk, Ac, Cr, Cd, G, M, S, L, D, Op, Mem};
 ghost use Rattle.ace_bin.specs.Binary.{header_bytes};

@@ -160,14 +160,15 @@ impl<'a, S: Source> BinReader<'a, S> {
         }
     }
 
-    /// As `next_into`, but it says alone whether there was an event. Where there was none, the reader keeps the answer, which `next`
-    /// and `next_into` give from then on.
+    /// As `next_into`, but it says alone whether there was an event. Where there was none, the
+    /// reader keeps the answer, which `next` and `next_into` give from then on.
     #[tactic(auto, using(crate::proofs::Progress::reading_next))]
     pub fn gives(&mut self, event: &mut Event) -> bool
         ensures same_source { (source_of self.new).ghost_name ≡ (source_of self.old).ghost_name }
         ensures same_header { header_of self.new ≡ header_of self.old }
         ensures next { last_answer self.old ≡ None
-            → StandsNext (header_of self.old).version (given result event.new (last_answer self.new))
+            → StandsNext (header_of self.old).version
+            (given result event.new (last_answer self.new))
             (count_of self.old) (place_of self.old)
             (unread S.left self.old) (unread S.left self.new) (S.left (source_of self.new).now) }
         ensures reads { last_answer self.old ≡ None → (bytes : List ℕ) (events : List Event)

@@ -68,7 +68,8 @@ fn read_second(tag: u8, bytes: &[u8], version: u8, event: &mut Event) -> Result<
     }
 }
 
-/// All of them. Each asks for its tags, and hands the others on, so that this is compiled as one choice among all tags.
+/// All of them. Each of these functions hands on the tags that it doesn't know, so that they are
+/// compiled as one choice among all tags.
 #[inline(always)]
 fn read_fields(tag: u8, bytes: &[u8], version: u8, event: &mut Event) -> Result<usize, BinReason>
     requires some { 1 ≤ tag }

@@ -190,8 +190,8 @@ fn number_of_1(digits: &[u8]) -> Option<u64>
     }
 }
 
-/// The number that these digits write, of which there are at most 16. How many there are, and the most that the number may be,
-/// which is known where this is compiled, say which way is the quicker.
+/// The number that these digits write, of which there are at most 16. How many there are, and the
+/// most that the number may be, say which way is quicker: both are known where this is compiled.
 #[inline(always)]
 fn short_number_of(digits: &[u8], most: u64) -> Option<u64>
     requires { length digits.now ≤ 16 }

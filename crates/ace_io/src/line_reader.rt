@@ -86,7 +86,8 @@ fn find_lf(piece: &[u8]) -> Option<usize>
     find_lf_after(piece, at)
 }
 
-/// Cuts the bytes of a source into lines. It asks for up to 65,536 bytes at once, and keeps what no line has yet.
+/// Cuts the bytes of a source into lines. It asks for up to 65,536 bytes at once, and keeps what no
+/// line has yet.
 #[derive(Drop)]
 pub struct LineReader<'a, S: Source> {
     source: &'a mut S,

@@ -13,7 +13,8 @@ pair_is a b low_a low_b = omega arith
 abbrev packed : List ℕ → ℕ
 packed l = pair l 0 1 * 2 ^ 24 + pair l 2 3 * 2 ^ 16 + pair l 4 5 * 2 ^ 8 + pair l 6 7
 
-packed_8 : (a b c d e f g h : ℕ) → IsTrue (are_entries (a ∷ b ∷ c ∷ d ∷ e ∷ f ∷ g ∷ h ∷ [])) → packed (a ∷ b ∷ c ∷ d ∷ e ∷ f ∷ g ∷ h ∷ []) ≡ entries_onto 0 (a ∷ b ∷ c ∷ d ∷ e ∷ f ∷ g ∷ h ∷ [])
+packed_8 : (a b c d e f g h : ℕ) → IsTrue (are_entries (a ∷ b ∷ c ∷ d ∷ e ∷ f ∷ g ∷ h ∷ []))
+    → packed (a ∷ b ∷ c ∷ d ∷ e ∷ f ∷ g ∷ h ∷ []) ≡ entries_onto 0 (a ∷ b ∷ c ∷ d ∷ e ∷ f ∷ g ∷ h ∷ [])
 packed_8 a b c d e f g h told =
     let t0 = first_entry a (b ∷ c ∷ d ∷ e ∷ f ∷ g ∷ h ∷ []) told in
     let b0 : a < 16 = t0.0 in
