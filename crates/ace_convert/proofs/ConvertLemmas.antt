@@ -1,5 +1,6 @@
 -- A trace is read in one form and written in another.
-use Rattle.std.proofs.Common.{◌≡◌, ◌≢◌, ◌++◌, ℕ, List, [], ◌∷◌, Option, None, Some, Result, Ok, Err, IfSome, refl, sym, ap, subst, ◌∙◌, inl, inr, append-nil, arith}
+use Rattle.std.specs.Prelude.{⊤}
+use Rattle.std.proofs.Common.{◌≡◌, ◌++◌, ℕ, List, [], ◌∷◌, Option, None, Some, Result, Ok, Err, IfSome, refl, sym, ap, subst, ◌∙◌, inl, inr, append-nil, arith}
 use Rattle.std.specs.Io.KnownBytes.{Appends, Consumes}
 use Rattle.std.proofs.KnownBytes.{Appends-nil}
 use Rattle.ace_event.specs.declared.event.Event.{Event}
@@ -22,10 +23,10 @@ use Rattle.ace_bin.specs.Binary.{header_bytes}
 use Rattle.ace_bin.specs.Reader as br
 use Rattle.ace_bin.proofs.Readings.Fronts.{binary_of-more}
 use Rattle.ace_convert.specs.declared.conversion.Conversion.{Conversion}
-use Rattle.ace_convert.specs.declared.conversion.Form.{Form}
-use Rattle.ace_convert.specs.declared.conversion.Form.TheVariants as forms
+use Rattle.ace_convert.specs.Form.{Form}
+use Rattle.ace_convert.specs.Form as forms
 use Rattle.ace_convert.specs.declared.end.TraceEnd.{TraceEnd}
-use Rattle.ace_convert.specs.declared.end.TraceEnd.TheVariants.{Whole, NoMemory}
+use Rattle.ace_convert.specs.declared.end.TraceEnd.TheVariants.{Whole}
 use Rattle.ace_convert.specs.Converted.{IsConverted, ConvertsFront, HasConverted}
 use Rattle.ace_convert.specs.Ends.{HasReadCause, HasNoTrace, text_end, binary_end}
 use Rattle.ace_convert.specs.Output.{AppendsPart}
@@ -58,7 +59,8 @@ front bytes text (Some rest) c = (rest, c)
 
 -- what is made of it, where bytes begin with it
 front_converted : (told unread : Option (List ℕ)) (conversion : Conversion) (header : Header) (events : List Event)
-    → IfSome told (λ bytes. HasRead (form_read conversion) bytes unread header events) → IfSome told (λ bytes. ConvertsFront conversion bytes (converted conversion header events))
+    → IfSome told (λ bytes. HasRead (form_read conversion) bytes unread header events)
+    → IfSome told (λ bytes. ConvertsFront conversion bytes (converted conversion header events))
 front_converted None unread conversion header events h = tt
 front_converted (Some bytes) unread conversion header events h = (header, events, h.trace, front bytes _ unread h.text, refl)
 
@@ -117,11 +119,6 @@ copied_more told before conversion header P Q W V event form version is same (ev
       ∙ sym (spelt_more (form_written conversion) (header_written conversion header) events event)) (put before (converted conversion header events) given),
 )
 
--- nothing was read but the header
-pub copied_none : (told before : Option (List ℕ)) (conversion : Conversion) (header : Header) (P : List ℕ → List Event → Type 0) (W : Option (List ℕ) → List ℕ → Type 0) (text : List ℕ)
-    → text ≡ converted conversion header [] → IfSome told (λ bytes. P bytes []) → W before text → Copied told conversion header P (W before)
-copied_none told before conversion header P W text is h given = ([], h, subst (W before) is given)
-
 -- a trace without events is its header
 pub text_alone : (header : Header) → header_text header ≡ spelt forms.Text header []
 text_alone header = sym (append-nil (header_text header))
@@ -147,11 +144,13 @@ part_given held told unread before conversion header P W sink sink' same reads p
 
 -- what was read, as the reader has it
 pub all_read : (told unread : Option (List ℕ)) (form : Form) (header : Header) (events : List Event) (P : List ℕ → List Event → Type 0)
-    → ((bytes : List ℕ) (events : List Event) → P bytes events → HasRead form bytes unread header events) → IfSome told (λ bytes. P bytes events) → IfSome told (λ bytes. HasRead form bytes unread header events)
+    → ((bytes : List ℕ) (events : List Event) → P bytes events → HasRead form bytes unread header events) → IfSome told (λ bytes. P bytes events)
+    → IfSome told (λ bytes. HasRead form bytes unread header events)
 all_read told unread form header events P reads h = read_all told events P (λ bytes more. HasRead form bytes unread header more) reads h
 
 -- all of it was given
-pub all_given : {K : Type 0} (held : K → Option (List ℕ)) (before : Option (List ℕ)) (text : List ℕ) (sink sink' : K) → sink' ≡ sink → Appends before (held sink) text → Appends before (held sink') text
+pub all_given : {K : Type 0} (held : K → Option (List ℕ)) (before : Option (List ℕ)) (text : List ℕ) (sink sink' : K) → sink' ≡ sink
+    → Appends before (held sink) text → Appends before (held sink') text
 all_given held before text sink sink' same a = rw same a
 
 -- ---- causes
@@ -174,7 +173,7 @@ same_end : (one other : TraceEnd) → ◌≡◌ {A = Result TraceEnd Failed} (Ok
 same_end one other is = cc
 
 -- the same as the answer of a reader
-pub as_error : (one other : TraceEnd) → ◌≡◌ {A = Result TraceEnd Failed} (Ok one) (Ok other) → ◌≡◌ {A = Result Event TraceEnd} (Err one) (Err other)
+pub as_error : (one other : TraceEnd) → ◌≡◌ {A = Result TraceEnd Failed} (Ok one) (Ok other) → ◌≡◌ {A = Result ⊤ TraceEnd} (Err one) (Err other)
 as_error one other is = ap Err (same_end one other is)
 
 none_converted : (conversion : Conversion) (told left : Option (List ℕ)) (end : TraceEnd) → HasNoTrace (form_read conversion) end told left
@@ -183,7 +182,8 @@ none_converted conversion None left end n = tt
 none_converted conversion (Some bytes) left end n = inl (n.1, refl)
 
 no_header : (conversion : Conversion) (input left : Option (List ℕ)) (before now : ℕ) (out : Option (List ℕ)) (faults : ℕ) (end : TraceEnd)
-    → HasNoTrace (form_read conversion) end input left → HasReadCause before now end → HasConverted conversion input left before now out out faults faults (Ok end)
+    → HasNoTrace (form_read conversion) end input left → HasReadCause before now end
+    → HasConverted conversion input left before now out out faults faults (Ok end)
 no_header conversion input left before now out faults end n c = record {
   given = ([], Appends-nil out, λ is. refl, none_converted conversion input left end n);
   part = tt;
@@ -200,7 +200,8 @@ none_text left faults conversion input source source' out count e end form is sa
     (rw form (text_none e (left input) (left source) (faults input) (faults source) n)) (text_none_cause e (left input) (left source) (faults input) (faults source) n)))
 
 pub none_binary : {S : Type 0} (left : S → Option (List ℕ)) (faults : S → ℕ) (conversion : Conversion) (input source source' : S) (out : Option (List ℕ)) (count : ℕ) (e : BinErr) (end : TraceEnd)
-    → form_read conversion ≡ forms.Binary → end ≡ binary_end e → source' ≡ source → binary.HasNoHeader e (left input) (faults input) (left source) (faults source)
+    → form_read conversion ≡ forms.Binary → end ≡ binary_end e → source' ≡ source
+    → binary.HasNoHeader e (left input) (faults input) (left source) (faults source)
     → HasConverted conversion (left input) (left source') (faults input) (faults source') out out count count (Ok end)
 none_binary left faults conversion input source source' out count e end form is same n =
     rw is (rw same (no_header conversion (left input) (left source) (faults input) (faults source) out count (binary_end e)

@@ -1,5 +1,5 @@
 -- The readings of bytes as a trace of either form: there is one that the bytes tell, and no second one.
-use Rattle.std.proofs.Common.{◌≡◌, ◌++◌, ◌⊎◌, ℕ, List, [], Option, None, Some, refl, sym, ap, ◌∙◌, inl, inr}
+use Rattle.std.proofs.Common.{◌≡◌, ◌++◌, ◌⊎◌, ℕ, List, Option, refl, sym, ap, ◌∙◌, inl, inr}
 use Rattle.ace_event.specs.declared.event.Event.{Event}
 use Rattle.ace_event.specs.declared.header.Header.{Header}
 use Rattle.ace_event.specs.Text.{events_text}
@@ -15,8 +15,7 @@ use Rattle.ace_bin.specs.Binary.{events_bytes}
 use Rattle.ace_bin.proofs.Readings.EveryReading as bs
 use Rattle.ace_bin.proofs.Readings.Fronts as bf
 use Rattle.ace_bin.proofs.Readings.OneReading as bo
-use Rattle.ace_convert.specs.declared.conversion.Form.{Form}
-use Rattle.ace_convert.specs.declared.conversion.Form.TheVariants.{Text, Binary}
+use Rattle.ace_convert.specs.Form.{Form, Text, Binary}
 use Rattle.ace_convert.specs.declared.end.TraceEnd.{TraceEnd}
 use Rattle.ace_convert.specs.declared.end.TraceEnd.TheVariants.{Whole, BadLine, BadRecord, Full, ReadFault, NoMemory}
 use Rattle.ace_convert.specs.Converted.{CanBeRead}

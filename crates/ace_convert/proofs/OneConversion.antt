@@ -1,24 +1,21 @@
 -- What is made of bytes is one text, and what was given of it before a failure is a front of that.
-use Rattle.std.proofs.Common.{◌≡◌, ◌++◌, ◌⊎◌, ℕ, List, [], Option, None, Some, refl, sym, ap, subst, ◌∙◌, inl, inr, append-nil, append_assoc}
+use Rattle.std.proofs.Common.{◌≡◌, ◌++◌, ℕ, List, [], Option, None, Some, refl, sym, ap, subst, ◌∙◌, inl, inr, append-nil, append_assoc}
 use Rattle.std.specs.Io.KnownBytes.{Consumes}
 use Rattle.ace_event.specs.declared.event.Event.{Event}
 use Rattle.ace_event.specs.declared.header.Header.{Header}
 use Rattle.ace_event.specs.Text.{trace_text}
 use Rattle.ace_grammar.specs.Lines.{BeginsWith}
 use Rattle.ace_grammar.specs.Reading as text
-use Rattle.ace_bin.specs.Binary.{binary_of}
 use Rattle.ace_bin.specs.Reading as binary
 use Rattle.ace_bin.proofs.Readings.Fronts as bf
-use Rattle.ace_bin.proofs.Readings.OneReading as bo
 use Rattle.ace_convert.specs.declared.conversion.Conversion.{Conversion}
 use Rattle.ace_convert.specs.declared.conversion.Conversion.TheVariants.{Pack, Unpack}
-use Rattle.ace_convert.specs.declared.conversion.Form.TheVariants.{Text, Binary}
 use Rattle.ace_convert.specs.declared.end.TraceEnd.{TraceEnd}
-use Rattle.ace_convert.specs.declared.end.TraceEnd.TheVariants.{Whole, BadLine, BadRecord, Full, ReadFault, NoMemory}
+use Rattle.ace_convert.specs.declared.end.TraceEnd.TheVariants.{Whole, ReadFault, NoMemory}
 use Rattle.ace_convert.specs.Converted.{CanBeRead, IsConverted, ConvertsFront}
 use Rattle.ace_convert.specs.Ends.{IsDueEnd}
-use Rattle.ace_convert.specs.Reading.{IsTrace, ReadsTo, ReadsNoHeader, TakesTrace}
-use Rattle.ace_convert.specs.Spelling.{spelt, form_read, form_written, header_written, converted}
+use Rattle.ace_convert.specs.Reading.{TakesTrace}
+use Rattle.ace_convert.specs.Spelling.{form_read, form_written, header_written, converted}
 use Rattle.ace_convert.proofs.FormReadings.{some_reading, one_reading, apart, one_bad, front_is_read, front_is_good, spelt_further, at_fault, no_memory}
 
 pub some_conversion : (conversion : Conversion) (bytes : List ℕ) (left : Option (List ℕ)) → CanBeRead (form_read conversion) bytes

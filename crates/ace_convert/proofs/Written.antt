@@ -1,13 +1,13 @@
 -- What may stand in a trace may stand in the trace that is written of it.
-use Rattle.std.proofs.Common.{◌≡◌, ◌≤◌, ◌⊎◌, ℕ, refl, sym, inl, inr, arith}
+use Rattle.std.proofs.Common.{◌≡◌, ◌⊎◌, ℕ, refl, sym, inl, inr, arith}
 use Rattle.ace_event.specs.declared.header.Header.{Header}
 use Rattle.ace_event.specs.declared.event.Event.{Event}
 use Rattle.ace_event.specs.declared.event.Event.TheVariants.{Ar, R, Rk, Aw, W, B, Wk, Ac, Cr, Cd, G, M, S, L, D, Op, Mem}
-use Rattle.ace_event.specs.Ports.{IsHeader, most_letters}
+use Rattle.ace_event.specs.Ports.{IsHeader}
 use Rattle.ace_event.specs.Range.{InRange, IsPort}
 use Rattle.ace_convert.specs.declared.conversion.Conversion.{Conversion}
 use Rattle.ace_convert.specs.declared.conversion.Conversion.TheVariants.{Show, Migrate, Pack, Unpack}
-use Rattle.ace_convert.specs.Spelling.{header_written, in_version_2}
+use Rattle.ace_convert.specs.Spelling.{header_written}
 
 -- What a trace of the one version may have, one of the other may have too.
 abbrev pub Allows : ℕ → ℕ → Type 0
@@ -40,30 +40,7 @@ allows_later : (version : ℕ) → (version ≡ 1) ⊎ (version ≡ 2) → Allow
 allows_later version (inl one) = rw one later
 allows_later version (inr two) = rw two (λ event r. r)
 
-at_most : (version : ℕ) → (version ≡ 1) ⊎ (version ≡ 2) → most_letters version ≤ 16
-at_most version (inl one) = rw one (omega arith)
-at_most version (inr two) = rw two (omega arith)
-
-readable_later : (header : Header) → IsHeader header → IsHeader (in_version_2 header)
-readable_later header h =
-    let most = at_most header.version h.version in
-    record {
-      version = inr refl;
-      some_port = h.some_port;
-      most_ports = h.most_ports;
-      most_ace = omega (arith, h.most_ace, most);
-      most_lite = omega (arith, h.most_lite, most);
-      no_other = h.no_other;
-    }
-
--- the header that is written is right
-pub written_right : (conversion : Conversion) (header read written : Header) → read ≡ header → written ≡ header_written conversion read → IsHeader header → IsHeader written
-written_right Show header read written same is h = rw is (rw same h)
-written_right Migrate header read written same is h = rw is (rw same (readable_later header h))
-written_right Pack header read written same is h = rw is (rw same h)
-written_right Unpack header read written same is h = rw is (rw same h)
-
--- and the trace with it may have what was read
+-- the trace that is written may have what was read
 pub written_allows : (conversion : Conversion) (header : Header) (from to : ℕ) (event : Event) → from ≡ header.version → to ≡ (header_written conversion header).version → IsHeader header
     → InRange from event → InRange to event
 written_allows Show header from to event same is h r = rw is (rw (sym same) r)

@@ -9,9 +9,7 @@ use Rattle.ace_event.specs.declared.event.Event.{Event}
 use Rattle.ace_grammar.specs.Lines.{BeginsWith}
 use Rattle.ace_bin.specs.Reading.{AreBytes}
 use Rattle.ace_convert.specs.declared.conversion.Conversion.{Conversion}
-use Rattle.ace_convert.specs.declared.conversion.Conversion.TheVariants.{Show, Migrate, Pack, Unpack}
-use Rattle.ace_convert.specs.declared.conversion.Form.{Form}
-use Rattle.ace_convert.specs.declared.conversion.Form.TheVariants.{Text, Binary}
+use Rattle.ace_convert.specs.Form.{Form, Text, Binary}
 use Rattle.ace_convert.specs.declared.end.TraceEnd.{TraceEnd}
 use Rattle.ace_convert.specs.declared.end.TraceEnd.TheVariants.{Whole, NoMemory}
 use Rattle.ace_convert.specs.Ends.{HasReadCause}

@@ -6,7 +6,7 @@ use Rattle.ace_grammar.specs.declared.error.ReadErr.{ReadErr}
 use Rattle.ace_grammar.specs.declared.error.ReadErr.TheVariants as text
 use Rattle.ace_bin.specs.declared.error.BinErr.{BinErr}
 use Rattle.ace_bin.specs.declared.error.BinErr.TheVariants as binary
-use Rattle.ace_convert.specs.declared.conversion.Form.{Form}
+use Rattle.ace_convert.specs.Form.{Form}
 use Rattle.ace_convert.specs.declared.end.TraceEnd.{TraceEnd}
 use Rattle.ace_convert.specs.declared.end.TraceEnd.TheVariants.{Whole, BadLine, BadRecord, Full, ReadFault, NoMemory}
 use Rattle.ace_convert.specs.Reading.{ReadsNoHeader}
@@ -22,17 +22,23 @@ binary_end (binary.Malformed byte reason) = BadRecord byte reason
 binary_end binary.TooManyEvents = Full
 binary_end binary.ReadFault = ReadFault
 
--- the next event of a text, or how its reading ends
-abbrev pub of_text : Result (Option Event) ReadErr → Result Event TraceEnd
-of_text (Ok (Some event)) = Ok event
+-- whether there was an event of a text, or how its reading ends
+abbrev pub of_text : Result (Option ⊤) ReadErr → Result ⊤ TraceEnd
+of_text (Ok (Some put)) = Ok put
 of_text (Ok None) = Err Whole
 of_text (Err error) = Err (text_end error)
 
 -- the same of a binary trace
-abbrev pub of_binary : Result (Option Event) BinErr → Result Event TraceEnd
-of_binary (Ok (Some event)) = Ok event
+abbrev pub of_binary : Result (Option ⊤) BinErr → Result ⊤ TraceEnd
+of_binary (Ok (Some put)) = Ok put
 of_binary (Ok None) = Err Whole
 of_binary (Err error) = Err (binary_end error)
+
+-- the next event of a trace, which was put in a place, or how its reading ends, by the event that
+-- stands there then
+abbrev pub with_event : Event → Result ⊤ TraceEnd → Result Event TraceEnd
+with_event event (Ok put) = Ok event
+with_event event (Err end) = Err end
 
 -- A count of faults goes up exactly where the input failed.
 pub record HasReadCause (before now : ℕ) (end : TraceEnd) : Type 0 where

@@ -11,8 +11,7 @@ use Rattle.ace_grammar.specs.Reading as text
 use Rattle.ace_bin.specs.Reading as binary
 use Rattle.ace_bin.specs.Binary.{header_size}
 use Rattle.ace_bin.specs.Errors as errors
-use Rattle.ace_convert.specs.declared.conversion.Form.{Form}
-use Rattle.ace_convert.specs.declared.conversion.Form.TheVariants.{Text, Binary}
+use Rattle.ace_convert.specs.Form.{Form, Text, Binary}
 use Rattle.ace_convert.specs.declared.end.TraceEnd.{TraceEnd}
 use Rattle.ace_convert.specs.declared.end.TraceEnd.TheVariants.{Whole, BadLine, BadRecord, Full, ReadFault, NoMemory}
 use Rattle.ace_convert.specs.Spelling.{spelt}

@@ -5,8 +5,7 @@ use Rattle.ace_event.specs.declared.event.Event.{Event}
 use Rattle.ace_event.specs.Text.{trace_text, event_text, line_text}
 use Rattle.ace_bin.specs.Binary.{binary_of}
 use Rattle.ace_bin.specs.Records.{event_bytes}
-use Rattle.ace_convert.specs.declared.conversion.Form.{Form}
-use Rattle.ace_convert.specs.declared.conversion.Form.TheVariants.{Text, Binary}
+use Rattle.ace_convert.specs.Form.{Form, Text, Binary}
 use Rattle.ace_convert.specs.declared.conversion.Conversion.{Conversion}
 use Rattle.ace_convert.specs.declared.conversion.Conversion.TheVariants.{Show, Migrate, Pack, Unpack}
 

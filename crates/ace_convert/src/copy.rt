@@ -1,7 +1,7 @@
 // A trace is read in one form and written in another.
 ghost use Rattle.std.specs.Prelude.{◌≡◌};
 ghost use Rattle.ace_convert.specs.declared.conversion.Conversion.TheVariants.{Pack, Unpack};
-ghost use Rattle.ace_convert.specs.declared.conversion.Form.TheVariants.{Text};
+ghost use Rattle.ace_convert.specs.Form.{Text};
 ghost use Rattle.ace_convert.specs.Converted.{HasConverted};
 ghost use Rattle.ace_convert.specs.Spelling.{form_read, form_written};
 
@@ -9,7 +9,7 @@ use crate::conversion::Conversion;
 use crate::end::{TraceEnd, binary_end, text_end};
 use crate::next::{next_in_binary, next_in_text};
 use ace_bin::{BinReader, BinWriter};
-use ace_grammar::Reader;
+use ace_grammar::{NO_EVENT, Reader};
 use ace_io::{Failed, Sink, Source};
 use ace_writer::Writer;
 use std::alloc::Global;
@@ -36,9 +36,10 @@ fn respell<S: Source, K: Sink>(
     let Ok(mut writer) = Writer::start(out, &header) else {
         return Err(Failed);
     };
+    let mut event = NO_EVENT;
     'events: loop {
-        match next_in_text(&mut reader) {
-            Ok(event) => match writer.put(&event) {
+        match next_in_text(&mut reader, &mut event) {
+            Ok(()) => match writer.put(&event) {
                 Ok(()) => {}
                 Err(_) => return Err(Failed),
             },
@@ -65,9 +66,10 @@ fn pack<S: Source, K: Sink>(alloc: Global, input: &mut S, out: &mut K) -> Result
     let Ok(mut writer) = BinWriter::start(out, &header) else {
         return Err(Failed);
     };
+    let mut event = NO_EVENT;
     'events: loop {
-        match next_in_text(&mut reader) {
-            Ok(event) => match writer.put(&event) {
+        match next_in_text(&mut reader, &mut event) {
+            Ok(()) => match writer.put(&event) {
                 Ok(()) => {}
                 Err(_) => return Err(Failed),
             },
@@ -94,9 +96,10 @@ fn unpack<S: Source, K: Sink>(input: &mut S, out: &mut K) -> Result<TraceEnd, Fa
     let Ok(mut writer) = Writer::start(out, &header) else {
         return Err(Failed);
     };
+    let mut event = NO_EVENT;
     'events: loop {
-        match next_in_binary(&mut reader) {
-            Ok(event) => match writer.put(&event) {
+        match next_in_binary(&mut reader, &mut event) {
+            Ok(()) => match writer.put(&event) {
                 Ok(()) => {}
                 Err(_) => return Err(Failed),
             },

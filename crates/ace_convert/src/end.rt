@@ -3,7 +3,6 @@ ghost use Rattle.std.specs.Prelude.{◌≡◌};
 ghost use Rattle.ace_convert.specs.Ends.{of_text, of_binary, text_end, binary_end};
 
 use ace_bin::{BinErr, BinReason};
-use ace_event::Event;
 use ace_grammar::{ReadErr, Reason};
 
 /// How the reading of a trace ends.
@@ -46,13 +45,13 @@ pub fn binary_end(error: BinErr) -> TraceEnd
     }
 }
 
-/// The next event of a text, or how its reading ends, by the answer of its reader.
+/// Whether there was an event of a text, or how its reading ends, by the answer of its reader.
 #[inline(always)]
-pub fn of_text(next: Result<Option<Event>, ReadErr>) -> Result<Event, TraceEnd>
+pub fn of_text(next: Result<Option<()>, ReadErr>) -> Result<(), TraceEnd>
     ensures { result ≡ of_text next }
 {
     match next {
-        Ok(Some(event)) => Ok(event),
+        Ok(Some(())) => Ok(()),
         Ok(None) => Err(TraceEnd::Whole),
         Err(error) => Err(text_end(error)),
     }
@@ -60,11 +59,11 @@ pub fn of_text(next: Result<Option<Event>, ReadErr>) -> Result<Event, TraceEnd>
 
 /// The same of a binary trace.
 #[inline(always)]
-pub fn of_binary(next: Result<Option<Event>, BinErr>) -> Result<Event, TraceEnd>
+pub fn of_binary(next: Result<Option<()>, BinErr>) -> Result<(), TraceEnd>
     ensures { result ≡ of_binary next }
 {
     match next {
-        Ok(Some(event)) => Ok(event),
+        Ok(Some(())) => Ok(()),
         Ok(None) => Err(TraceEnd::Whole),
         Err(error) => Err(binary_end(error)),
     }

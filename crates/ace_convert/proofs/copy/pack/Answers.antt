@@ -1,13 +1,10 @@
-use Rattle.std.proofs.Common.{rules, refl, sym, ap, subst, ◌∙◌, Ok, Err}
+use Rattle.std.proofs.Common.{rules, refl, ap, ◌∙◌, Err}
 use Rattle.ace_grammar.specs.Reader.{header_of, unread, HasRead}
 use Rattle.ace_bin.specs.Given.{GivesFront}
 use Rattle.ace_convert.specs.declared.conversion.Conversion.TheVariants.{Pack}
-use Rattle.ace_convert.specs.declared.conversion.Form.{Form}
-use Rattle.ace_convert.specs.declared.conversion.Form.TheVariants.{Binary, Text}
+use Rattle.ace_convert.specs.Form.{Binary, Text}
 use Rattle.ace_convert.specs.Spelling.{converted}
-use Rattle.ace_convert.proofs.Written.{written_allows, written_right}
 use Rattle.ace_convert.proofs.ConvertLemmas.{copied_more, part_given, all_given, all_read, ended, nothing_left, failed_cause, whole_cause, read_cause, none_text, text_read, as_error}
-use Rattle.ace_convert.proofs.ConvertLemmas as lemmas
 use Rattle.ace_convert.proofs.copy.pack.Goals as goal
 
 pub returns-in-Err : goal.returns-in-Err
@@ -17,7 +14,7 @@ pub events-preserved : goal.events-preserved
 events-preserved g c = record {
   reads_on = c.in-Ok-next_in_text.ensures.reads_on;
   copied = copied_more _ (g.K.Sink.held c.args.out.now) Pack (header_of c.in-Ok.reader) (λ bytes events. HasRead g.S.Source.left bytes events c.events.reader) (λ bytes events. HasRead g.S.Source.left bytes events c.next_in_text.new.reader)
-      (λ before bytes. GivesFront g.K.Sink.held before bytes c.events.writer) (λ before bytes. GivesFront g.K.Sink.held before bytes c.put.new.self) c.in-Ok-next_in_text.event Binary _ refl c.events.invariant.same_written c.events.invariant.copied c.in-Ok-next_in_text.ensures.reads
+      (λ before bytes. GivesFront g.K.Sink.held before bytes c.events.writer) (λ before bytes. GivesFront g.K.Sink.held before bytes c.put.new.self) c.next_in_text.new.event Binary _ refl c.events.invariant.same_written c.events.invariant.copied c.in-Ok-next_in_text.ensures.reads
       c.in-Ok-put.ensures.bytes;
   same_read = c.next_in_text.ensures.same_header ∙ c.events.invariant.same_read;
   same_written = c.put.ensures.same_version ∙ c.events.invariant.same_written;
@@ -34,7 +31,7 @@ returns-in-Err-put g c = record {
   part = part_given g.K.Sink.held _ (unread g.S.Source.left c.next_in_text.new.reader) _ Pack (header_of c.in-Ok.reader) (λ bytes events. HasRead g.S.Source.left bytes events c.next_in_text.new.reader) (λ bytes. GivesFront g.K.Sink.held (g.K.Sink.held c.args.out.now) bytes c.put.new.self) _ _ (search rules)
       (λ bytes events h. text_read g.S.Source.left bytes events c.next_in_text.new.reader (header_of c.in-Ok.reader) (c.next_in_text.ensures.same_header ∙ c.events.invariant.same_read) h) (λ text f. (f.front, f.rest, f.cut, f.taken))
       (copied_more _ (g.K.Sink.held c.args.out.now) Pack (header_of c.in-Ok.reader) (λ bytes events. HasRead g.S.Source.left bytes events c.events.reader) (λ bytes events. HasRead g.S.Source.left bytes events c.next_in_text.new.reader)
-      (λ before bytes. GivesFront g.K.Sink.held before bytes c.events.writer) (λ before bytes. GivesFront g.K.Sink.held before bytes c.put.new.self) c.in-Ok-next_in_text.event Binary _ refl c.events.invariant.same_written c.events.invariant.copied c.in-Ok-next_in_text.ensures.reads
+      (λ before bytes. GivesFront g.K.Sink.held before bytes c.events.writer) (λ before bytes. GivesFront g.K.Sink.held before bytes c.put.new.self) c.next_in_text.new.event Binary _ refl c.events.invariant.same_written c.events.invariant.copied c.in-Ok-next_in_text.ensures.reads
       c.in-Err-put.ensures.bytes);
   whole = λ is. absurd (cc);
   cause = tt;
