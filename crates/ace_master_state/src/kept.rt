@@ -58,8 +58,27 @@ impl Kept {
         })
     }
 
+    /// What is kept beside its transactions and snoops hears the next event of the trace, which is
+    /// one of the port. It stands apart from the look whether that is so, since most events are of
+    /// other ports.
+    #[inline(never)]
+    fn note_own(&mut self, event: &Event)
+        ensures rest { (plan : Plan) (past : Trace) (p : ℕ) → KeptStands plan past p self.old
+            → IsLegal plan (event.now ∷ past) → (port_of event.now ≡ Some p → HasLowId event.now)
+            → RestStands plan (event.now ∷ past) p self.new }
+        ensures port { self.new.port ≡ self.old.port }
+    {
+        let place = self.port.count();
+        self.lines.hear(&self.port, event);
+        self.monitor.hear(event, &self.lines);
+        self.segment.hear(event, place);
+        self.completions.hear(&self.port, event);
+        self.syncs.hear(&self.port, event);
+    }
+
     /// What is kept beside its transactions and snoops hears the next event of the trace. Of that
     /// an event of another port says nothing.
+    #[inline(always)]
     fn note(&mut self, event: &Event)
         ensures rest { (plan : Plan) (past : Trace) (p : ℕ) → KeptStands plan past p self.old
             → IsLegal plan (event.now ∷ past) → (port_of event.now ≡ Some p → HasLowId event.now)
@@ -70,15 +89,11 @@ impl Kept {
         if !is_at(event, self.port.port()) {
             return;
         }
-        let place = self.port.count();
-        self.lines.hear(&self.port, event);
-        self.monitor.hear(event, &self.lines);
-        self.segment.hear(event, place);
-        self.completions.hear(&self.port, event);
-        self.syncs.hear(&self.port, event);
+        self.note_own(event);
     }
 
     /// Hears the next event of the trace.
+    #[inline(always)]
     pub fn hear(&mut self, event: &Event)
         ensures { (plan : Plan) (past : Trace) (p : ℕ) → KeptStands plan past p self.old → IsLegal plan (event.now ∷ past)
             → (port_of event.now ≡ Some p → HasLowId event.now) → KeptStands plan (event.now ∷ past) p self.new }

@@ -10,8 +10,12 @@ ghost use Rattle.ace_model.specs.Snoops.{answered};
 ghost use Rattle.ace_model.specs.Trace.{Trace};
 ghost use Rattle.ace_model.specs.Transactions.{acknowledged, has_outstanding_on, is_ace, outstanding};
 ghost use Rattle.ace_model.specs.Writes.{next_write, next_write_beat};
+ghost use Rattle.std.specs.List.{AllByRecursion};
+ghost use Rattle.ace_portck.specs.Heard.{IsHeard};
 ghost use Rattle.ace_portck.specs.OnePort.{IsRoomy, MayHear, OnePortStands, port_of};
-ghost use Rattle.ace_portck.specs.Pending.{pending_of};
+ghost use Rattle.ace_portck.specs.Pending.{HasByteId, pending_of};
+ghost use Rattle.ace_portck.specs.Port.{HasRoom, PortStands};
+ghost use Rattle.ace_portck.specs.Snoops.{IsRoomy as RoomsFor};
 ghost use Rattle.ace_portck.specs.Targets.{own_of, progress_of};
 
 use crate::port::PortRecord;
@@ -31,6 +35,20 @@ pub struct OnePort {
     /// How many events came, at any port.
     count: usize,
     kept: PortRecord,
+}
+
+/// What is kept of the port hears an event of it. It stands apart from the look whether an event is
+/// one of the port, since most events are of other ports.
+#[inline(never)]
+fn hear_own(kept: &mut PortRecord, header: &Header, port: u8, place: usize, event: &Event)
+    ensures stands { (past : Trace) → IsHeard header.now past place event.now port
+        → AllByRecursion HasByteId (event.now ∷ past)
+        → PortStands header.now past port kept.old → HasRoom kept.old event.now
+        → PortStands header.now (event.now ∷ past) port kept.new }
+    ensures room { (snoops : ℕ) → RoomsFor snoops kept.old.snoops
+        → RoomsFor snoops kept.new.snoops }
+{
+    kept.hear(header, port, place, event);
 }
 
 impl OnePort {
@@ -172,6 +190,7 @@ impl OnePort {
     }
 
     /// Hears the next event of the trace, which keeps the rules. It takes no memory.
+    #[inline(always)]
     pub fn hear(&mut self, event: &Event)
         ensures stands { (h : Header) (past : Trace) (p : ℕ) → MayHear self.old h past p event.now
             → OnePortStands self.new h (event.now ∷ past) p }
@@ -182,7 +201,7 @@ impl OnePort {
         let place = self.count;
         self.count = place.wrapping_add(1);
         if is_at(event, self.port) {
-            self.kept.hear(&self.header, self.port, place, event);
+            hear_own(&mut self.kept, &self.header, self.port, place, event);
         }
     }
 }

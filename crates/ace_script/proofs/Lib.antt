@@ -14,3 +14,4 @@ pub mod Waiting
 pub mod CopiedPlans
 pub mod SamePlans
 pub mod EveryReading
+pub mod Classes

@@ -182,6 +182,7 @@ pub fn read_header<S: Source>(
 /// Adds the operation of this line, without its line feed, to the plan. At an error the plan stays.
 fn add_operation(line: &[u8], view: &mut PlanView) -> Result<(), PlanErr>
     requires no_room { view.old.room ≡ 0 }
+    requires script { IsScript view.old.plan }
     requires few { length view.old.plan.operations < most_operations }
     ensures operation { OnOk result (IsOneMore view.old.plan view.new.plan line.now) }
     ensures room { view.new.room ≡ 0 }
@@ -225,6 +226,7 @@ fn read_next<S: Source>(
     view: &mut PlanView,
 ) -> Result<bool, PlanErr>
     requires no_room { view.old.room ≡ 0 }
+    requires script { IsScript view.old.plan }
     ensures same_source { (source_of lines.new).ghost_name ≡ (source_of lines.old).ghost_name }
     ensures room { view.new.room ≡ 0 }
     ensures more { result ≡ Ok true → TakesOne view.old.plan view.new.plan (waiting S.left lines.old) (waiting S.left lines.new) }

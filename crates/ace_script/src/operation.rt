@@ -1,13 +1,14 @@
 // The operation of a line, by its word and its fields.
-ghost use Rattle.std.specs.Prelude.{◌≡◌, ◌==◌, ◌∷◌, not, IfOk, IfErr};
+ghost use Rattle.std.specs.Prelude.{◌≡◌, ◌==◌, ◌∷◌, [], not, IfOk, IfErr};
 ghost use Rattle.std.specs.Option.{option_map};
 ghost use Rattle.std.specs.List.{slice_split, list_all};
 ghost use Rattle.std.specs.Map.{lookup};
 ghost use Rattle.std.specs.Str.{bytes_eq};
 ghost use Rattle.ace_grammar.specs.Parts.{parts};
-ghost use Rattle.ace_model.specs.Trace.{implies};
+ghost use Rattle.ace_tables.specs.Answers.{same_test};
+ghost use Rattle.ace_model.specs.Trace.{implies, is_some_and};
 ghost use Rattle.ace_model.specs.Transactions.{is_ace};
-ghost use Rattle.ace_model.specs.Plans.{is_lite_operation, is_of_one_class, is_allowed, IsRightAfter};
+ghost use Rattle.ace_model.specs.Plans.{is_lite_operation, is_of_one_class, is_allowed, AreRightAfter, IsRightAfter, line_named, wants_no_snoop};
 ghost use Rattle.ace_script.specs.Fields.{made, alone, pair, triple, no_field, one_field, two_fields, three_fields, address_of, place_of, word_of, strobe_of, line_of, fetch_of, lone_word_of, sync_word_of, first_word_of, second_word_of};
 ghost use Rattle.ace_script.specs.Grammar.{OperationFits};
 ghost use Rattle.ace_script.specs.Operations.{by_row, order_rows, uncached_rows, op_of, operation_of};
@@ -232,16 +233,22 @@ fn op_of(word: &[u8], rest: Option<&[u8]>) -> Result<Op, Reason>
     }
 }
 
-/// Whether the two don't name one line once with and once without a snoop.
-fn is_of_one_class(op: Op, other: Op) -> bool
-    ensures { result ≡ is_of_one_class op other }
+/// Whether the two name one line.
+fn name_one_line(op: Op, other: Op) -> bool
+    ensures { result
+        ≡ is_some_and (line_named op) (λ a. is_some_and (line_named other) (λ b. b == a)) }
 {
     match (op.line(), other.line()) {
-        (Some(line), Some(named)) => {
-            named != line || op.wants_no_snoop() == other.wants_no_snoop()
-        }
-        _ => true,
+        (Some(line), Some(named)) => named == line,
+        _ => false,
     }
+}
+
+/// Whether both access their lines without a snoop, or neither does.
+fn are_of_one_class(op: Op, other: Op) -> bool
+    ensures { result ≡ same_test (wants_no_snoop op) (wants_no_snoop other) }
+{
+    op.wants_no_snoop() == other.wants_no_snoop()
 }
 
 /// Whether the kind of port can do the operation.
@@ -254,22 +261,31 @@ fn is_for_port(header: &Header, o: PlanOp) -> bool
     }
 }
 
-/// Whether none of these operations names the line of this one in the other class.
-fn keeps_class(before: &[PlanOp], op: Op) -> bool
+/// Whether none of these operations, which are those of a right plan, names the line of this one in
+/// the other class. All of them that name it are of one class, so the first tells it.
+fn keeps_class(_header: &Header, before: &[PlanOp], op: Op) -> bool
+    requires { AreRightAfter _header.now [] before.now }
     ensures { result ≡ list_all (λ other. is_of_one_class op other.op) before.now }
 {
-    before.iter().all(|other| is_of_one_class(op, other.op))
+    for k in 0..before.len() {
+        if name_one_line(op, before[k].op) {
+            return are_of_one_class(op, before[k].op);
+        }
+    }
+    true
 }
 
 /// Whether the kind of port can do the operation, and none of these named its line in the other class.
-pub fn is_allowed(header: &Header, before: &[PlanOp], o: PlanOp) -> bool
+fn is_allowed(header: &Header, before: &[PlanOp], o: PlanOp) -> bool
+    requires { AreRightAfter header.now [] before.now }
     ensures { result ≡ is_allowed header.now before.now o }
 {
-    is_for_port(header, o) && keeps_class(before, o.op)
+    is_for_port(header, o) && keeps_class(header, before, o.op)
 }
 
 /// The operation of a line, or the least reason that applies.
 fn operation_of(line: &[u8], header: &Header, before: &[PlanOp]) -> Result<PlanOp, Reason>
+    requires { AreRightAfter header.now [] before.now }
     ensures { result ≡ operation_of header.now before.now (slice_split (λ byte. byte == 32) line.now) }
 {
     let (first, rest) = cut_field(line);
@@ -291,10 +307,12 @@ fn operation_of(line: &[u8], header: &Header, before: &[PlanOp]) -> Result<PlanO
     }
 }
 
-/// The operation whose line this is, without its line feed, behind these of a script with this header. Where it is the line of
-/// none that can stand there, the error is the least reason that applies.
+/// The operation whose line this is, without its line feed, behind these of a right script with this
+/// header. Where it is the line of none that can stand there, the error is the least reason that
+/// applies.
 #[tactic(auto, using(crate::proofs::LineReasons::line_parsed, crate::proofs::LineReasons::line_reason))]
 pub fn parse_operation(line: &[u8], header: &Header, before: &[PlanOp]) -> Result<PlanOp, Reason>
+    requires { AreRightAfter header.now [] before.now }
     ensures operation { IfOk result (λ o. IsRightAfter header.now before.now o × OperationFits o × (operation_text o ≡ line.now)) }
     ensures reason { IfErr result (HasReason header.now before.now line.now) }
 {

@@ -1,5 +1,7 @@
 // How a snoop may be answered.
-ghost use Rattle.std.specs.Prelude.{◌≡◌, ◌+◌, ◌≤◌, ◌++◌, length};
+ghost use Rattle.std.specs.Prelude.{◌≡◌, ◌+◌, ◌≤◌, ◌++◌, ◌||◌, ◌∷◌, [], length};
+ghost use Rattle.ace_codes.specs.declared.state.LineState.TheVariants.{I as Invalid};
+ghost use Rattle.ace_tables.specs.States.{is_among, is_invalid};
 ghost use Rattle.ace_tables.specs.Answers.{states_after_sharing, states_after, fits_transfer, must_pass_dirty, fits_answer, fits_update, is_snoop_row, rows_to, snoop_rows};
 
 use crate::rows::{Row, RowList};
@@ -108,17 +110,37 @@ pub fn is_snoop_row(
         && (!update || fits_update(kind, next, resp))
 }
 
+/// Whether there may be rows with this next state: it is I, or one in which the snoop may leave a
+/// port that holds the line.
+fn may_leave(kind: SnoopKind, held: LineState, next: LineState) -> bool
+    ensures { result ≡ (is_invalid next || is_among next (states_after kind held)) }
+{
+    is_invalid(next) || is_among(next, states_after(kind, held))
+}
+
 /// Puts the rows with this next state at the end of the list.
 #[tactic(auto, using(crate::proofs::RowsAmong::row_steps), unfolding(crate::specs::Answers::rows_to))]
 fn push_rows(rows: &mut RowList, kind: SnoopKind, held: LineState, update: bool, next: LineState)
     requires { length rows.old + length (rows_to kind held update next) ≤ 12 }
     ensures { rows.new ≡ rows.old ++ rows_to kind held update next }
 {
+    if !may_leave(kind, held, next) {
+        return;
+    }
     for resp in RESPONSES {
         if is_snoop_row(kind, held, update, resp, next) {
             rows.push(Row { resp, next });
         }
     }
+}
+
+/// The one row of a port that doesn't hold the line.
+fn plain_rows() -> RowList
+    ensures { result ≡ record { resp = 0; next = Invalid } ∷ [] }
+{
+    let mut rows = RowList::empty();
+    rows.push(Row { resp: 0, next: I });
+    rows
 }
 
 /// The rows of a snoop: how a port may answer it that holds the line in this state, and has a memory update of the line
@@ -128,6 +150,9 @@ fn push_rows(rows: &mut RowList, kind: SnoopKind, held: LineState, update: bool,
 pub fn snoop_rows(snoop: SnoopKind, held: LineState, update: bool) -> RowList
     ensures { result ≡ snoop_rows snoop held update }
 {
+    if is_invalid(held) {
+        return plain_rows();
+    }
     let mut rows = RowList::empty();
     push_rows(&mut rows, snoop, held, update, UD);
     push_rows(&mut rows, snoop, held, update, SD);

@@ -1,9 +1,14 @@
-use Rattle.std.proofs.Common.{length, ap, arith, length-append}
+use Rattle.std.proofs.Common.{length, ap, sym, ◌∙◌, arith, length-append}
+use Rattle.std.proofs.lemmas.List.{append-nil}
 use Rattle.std.proofs.lemmas.Grind.{common_steps}
 use Rattle.ace_tables.specs.Answers.{response_order}
-use Rattle.ace_tables.proofs.RowsAmong.{rows_among-drop}
+use Rattle.ace_tables.proofs.RowsAmong.{no-rows, rows_among-drop}
 use Rattle.ace_tables.proofs.answers.push_rows.Goals as goal
 use Rattle.ace_tables.proofs.answers.push_rows.Goals.{then-is_snoop_row, else-is_snoop_row}
+
+-- there is no row to look for
+pub returns-then-not-may_leave : goal.returns-then-not-may_leave
+returns-then-not-may_leave c = rw (no-rows c.args.kind c.args.held c.args.next c.args.update (sym c.may_leave.ensures ∙ c.if-not-may_leave.true)) (sym (append-nil c.args.rows.now))
 
 pub push-requires : goal.push-requires
 push-requires c =

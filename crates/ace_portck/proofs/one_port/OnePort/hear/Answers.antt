@@ -15,8 +15,8 @@ returns-then-is_at-clause-stands c = λ h past p m.
     let named = is_some_and-is (port_of e) (λ r. r == q) (sym c.is_at.ensures ∙ c.if-is_at.true) in
     let own : port_of e ≡ Some q = named.1 ∙ ap Some (eqb-true named.0 q named.2) in
     let accepted : IsAccepted h (e ∷ past) = (s.accepted, m.keeps) in
-    let then = subst (λ (v : Header). IsHeard v past c.args.self.now.count e q → PortStands v past q c.args.self.now.kept → PortStands v (e ∷ past) q c.hear.new.self) s.header
-    (λ heard before. c.hear.ensures.stands past heard (c.has_byte_id.ensures, s.bytes) before (m.room (own ∙ ap Some s.port))) in
+    let then = subst (λ (v : Header). IsHeard v past c.args.self.now.count e q → PortStands v past q c.args.self.now.kept → PortStands v (e ∷ past) q c.hear_own.new.kept) s.header
+    (λ heard before. c.hear_own.ensures.stands past heard (c.has_byte_id.ensures, s.bytes) before (m.room (own ∙ ap Some s.port))) in
     record {
       header = s.header;
       port = s.port;
@@ -24,7 +24,7 @@ returns-then-is_at-clause-stands c = λ h past p m.
       bytes = (c.has_byte_id.ensures, s.bytes);
       count = omega (arith, few, count);
       kept =
-          subst (λ r. PortStands h (e ∷ past) r c.hear.new.self) s.port
+          subst (λ r. PortStands h (e ∷ past) r c.hear_own.new.kept) s.port
           (then (record { accepted = accepted; place_is = count; port = own }) (subst (λ r. PortStands h past r c.args.self.now.kept) (sym s.port) s.kept));
     }
 
