@@ -7,6 +7,8 @@ pub mod laws;
 mod lines;
 mod maker;
 mod reads;
+#[cfg(test)]
+mod tests;
 mod track;
 mod whole;
 
