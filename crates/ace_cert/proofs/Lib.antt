@@ -8,3 +8,12 @@ pub mod Elements
 pub mod ReadEvents
 -- The tests of a certificate pass exactly where it is one.
 pub mod Exact
+pub mod WalkKeys
+pub mod WalkNames
+pub mod WalkLines
+pub mod WalkMarks
+pub mod WalkBursts
+pub mod WalkChanges
+pub mod WalkReads
+pub mod WalkEnds
+pub mod WalkHear

@@ -1,3 +1,4 @@
 pub mod Certificates
 pub mod Checks
+pub mod Walk
 pub mod Worked

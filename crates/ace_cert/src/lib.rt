@@ -8,6 +8,8 @@ mod lists;
 pub mod rows;
 #[cfg(test)]
 mod tests;
+mod verification;
 
 pub use cert::{Cert, LineOrder, ReadPlace};
 pub use lists::{EventList, LineList, PlaceList};
+pub use verification::verify;
