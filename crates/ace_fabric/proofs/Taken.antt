@@ -7,8 +7,9 @@ use Rattle.ace_event.specs.declared.header.Header.{Header}
 use Rattle.ace_model.specs.Plans.{Plan}
 use Rattle.ace_model.specs.Trace.{Trace}
 use Rattle.ace_runs.specs.Bursts.{onto}
-use Rattle.ace_runs.specs.Steps.{AreSteps, IsStep, StepKind, has_number, is_enabled, is_enabled_by, is_sound, is_step_by, may_give, steps_of}
+use Rattle.ace_runs.specs.Steps.{AreSteps, IsStep, StepKind, has_number, is_enabled_by, is_sound, is_step_by, may_give, steps_of}
 use Rattle.ace_engine.specs.Engines.{Home, Master, Order, Update, numbers_of}
+use Rattle.ace_home.specs.Among.{PortSets, is_enabled_among, is_enabled_by_among, steps_among}
 
 any-number : (numbers : List ℕ) (h : Header) (past : Trace) (p : ℕ) (burst : List Event) (steps : List StepKind)
     → list_any (λ s. has_number numbers s && may_give h past p burst s) steps ≡ true → list_any (may_give h past p burst) steps ≡ true
@@ -57,7 +58,7 @@ none-of-any u v w x h past p (s ∷ steps) all a b c d =
     one-of (has_number u s) (has_number v s) (has_number w s) (has_number x s) (s.is_enabled h past p) parts.0 on.0 tw.0 th.0 fo.0 in
     rw here (none-of-any u v w x h past p steps parts.1 on.1 tw.1 th.1 fo.1)
 
-pub no-kind-enabled : (plan : Plan) (past : Trace) (p : ℕ) → is_enabled_by (numbers_of Master) plan past p ≡ false → is_enabled_by (numbers_of Update) plan past p ≡ false
-    → is_enabled_by (numbers_of Home) plan past p ≡ false → is_enabled_by (numbers_of Order) plan past p ≡ false → is_enabled plan past p ≡ false
-no-kind-enabled plan past p m u h o =
-    none-of-any (numbers_of Master) (numbers_of Update) (numbers_of Home) (numbers_of Order) plan.header past p (steps_of plan past p) refl m u h o
+pub no-kind-enabled : (among : PortSets) (plan : Plan) (past : Trace) (p : ℕ) → is_enabled_by (numbers_of Master) plan past p ≡ false → is_enabled_by (numbers_of Update) plan past p ≡ false
+    → is_enabled_by_among among (numbers_of Home) plan past p ≡ false → is_enabled_by (numbers_of Order) plan past p ≡ false → is_enabled_among among plan past p ≡ false
+no-kind-enabled among plan past p m u h o =
+    none-of-any (numbers_of Master) (numbers_of Update) (numbers_of Home) (numbers_of Order) plan.header past p (steps_among among plan past p) refl m u h o

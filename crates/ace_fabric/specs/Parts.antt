@@ -4,10 +4,11 @@ use Rattle.ace_event.specs.declared.event.Event.{Event}
 use Rattle.ace_model.specs.Plans.{Plan}
 use Rattle.ace_model.specs.Trace.{Trace}
 use Rattle.ace_runs.specs.Bursts.{onto}
-use Rattle.ace_runs.specs.Steps.{AreSteps, IsStep}
+use Rattle.ace_runs.specs.Steps.{AreSteps}
 use Rattle.ace_engine.specs.Engines.{EngineKind, Home, IsLegal, Master, Order, Update, is_given_by}
 use Rattle.ace_engine.specs.Heard.{none_passes}
 use Rattle.ace_engine.specs.declared.engine.Engine.{Ghosts}
+use Rattle.ace_home.specs.Among.{IsStepAmong, PortSets}
 
 -- none of the events, which come after the trace, is one that an engine of this kind gives for the port
 abbrev pub NoneGiven : EngineKind → ℕ → Trace → List Event → Type 0
@@ -48,8 +49,8 @@ pub record AreEngines {H U O M : Type 0} (h : Ghosts H) (u : Ghosts U) (o : Ghos
   pub order_is : TakesPart o Order plan past order
   pub masters_are : AreMasters m plan past masters
 
--- From each run for which the first engines are, the burst is a step of the port, after which the others are.
-abbrev pub HaveMoved : {H U O M : Type 0} → Ghosts H → Ghosts U → Ghosts O → Ghosts M → ℕ → List Event → H → U → O → List M → H → U → O → List M → Type 0
-HaveMoved h u o m p burst home update order masters home' update' order' masters' =
+-- From each run for which the first engines are, the burst is a step of the port, which snoops only ports of the sets, after which the others are.
+abbrev pub HaveMoved : {H U O M : Type 0} → PortSets → Ghosts H → Ghosts U → Ghosts O → Ghosts M → ℕ → List Event → H → U → O → List M → H → U → O → List M → Type 0
+HaveMoved among h u o m p burst home update order masters home' update' order' masters' =
     (plan : Plan) (past : Trace) → AreEngines h u o m plan past home update order masters
-    → IsStep plan past p burst × AreEngines h u o m plan (onto burst past) home' update' order' masters'
+    → IsStepAmong among plan past p burst × AreEngines h u o m plan (onto burst past) home' update' order' masters'

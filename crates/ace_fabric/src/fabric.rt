@@ -8,6 +8,7 @@ ghost use Rattle.ace_runs.specs.Bursts.{onto};
 ghost use Rattle.ace_runs.specs.Follows.{Done, is_done};
 ghost use Rattle.ace_runs.specs.Steps.{AreSteps, Enabled, IsStep, is_enabled};
 ghost use Rattle.ace_engine.specs.Engines.{IsLegal};
+ghost use Rattle.ace_home.specs.Among.{HasHolders, IsStepAmong, is_enabled_among};
 ghost use Rattle.ace_fabric.specs.Parts.{AreEngines};
 ghost use Rattle.ace_fabric.specs.Runs.{AreTurnsBy, continued, grown};
 
@@ -17,9 +18,10 @@ use crate::left::Left;
 use crate::moving::by_any;
 use ace_engine::{Burst, Engine};
 use ace_event::Event;
+use ace_home::LineEngine;
 use ace_io::NoMemory;
 use ace_master::Master;
-use ace_model::Op;
+use ace_model::{AllPorts, Among, Op};
 use ace_script::Plan;
 use std::alloc::Global;
 use std::marker::Model;
@@ -136,7 +138,7 @@ impl<H: Engine + Drop, U: Engine + Drop, O: Engine + Drop, M: Engine + Drop> Fab
     }
 }
 
-impl<H: Engine, U: Engine, O: Engine, M: Engine> Fabric<H, U, O, M> {
+impl<H: LineEngine, U: Engine, O: Engine, M: Engine> Fabric<H, U, O, M> {
     /// What holds of each run: the plan is right, the trace is accepted, follows the plan so far, is lean and is a list of steps; it isn't long; and
     /// until the run is done, some port is enabled.
     pub fn keeps(&self)
@@ -181,6 +183,27 @@ impl<H: Engine, U: Engine, O: Engine, M: Engine> Fabric<H, U, O, M> {
         if self.idle.has(port) {
             return Turn::Idle;
         }
+        match self.turn_among(port, &AllPorts) {
+            Turn::Moved => Turn::Moved,
+            Turn::Idle => {
+                self.idle.add(port);
+                Turn::Idle
+            }
+        }
+    }
+
+    /// A turn of the port that snoops for each line only ports of a set, which has each ACE port whose
+    /// state of the line isn't I. The engines are asked even where the last turn put no step, since
+    /// another set may be given. It takes no memory.
+    pub fn turn_among<F: Among>(&mut self, port: u8, among: &F) -> Turn
+        requires port { port < self.old.plan.header.ports }
+        requires holders { HasHolders (F.has among.now) self.old.plan.header self.old.past }
+        ensures moved { result ≡ Turn.Moved → (burst : List Event)
+            × IsStepAmong (F.has among.now) self.old.plan self.old.past port burst
+            × (self.new ≡ continued burst self.old) }
+        ensures idle { result ≡ Turn.Idle → (self.new ≡ self.old)
+            × (is_enabled_among (F.has among.now) self.old.plan self.old.past port ≡ false) }
+    {
         empty(&mut self.burst);
         if !by_any(
             &mut self.home,
@@ -188,9 +211,9 @@ impl<H: Engine, U: Engine, O: Engine, M: Engine> Fabric<H, U, O, M> {
             &mut self.order,
             self.masters.as_mut_slice(),
             port,
+            among,
             &mut self.burst,
         ) {
-            self.idle.add(port);
             return Turn::Idle;
         }
         append(&mut self.events, &self.burst);

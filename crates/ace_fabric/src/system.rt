@@ -8,6 +8,7 @@ ghost use Rattle.ace_runs.specs.Bursts.{onto};
 ghost use Rattle.ace_runs.specs.Follows.{Done, is_done};
 ghost use Rattle.ace_runs.specs.Steps.{AreSteps, Enabled, IsStep, is_enabled};
 ghost use Rattle.ace_engine.specs.Engines.{IsLegal};
+ghost use Rattle.ace_home.specs.Among.{HasHolders, IsStepAmong, is_enabled_among};
 ghost use Rattle.ace_home.specs.Home.{HomeStands};
 ghost use Rattle.ace_update.specs.Update.{UpdateStands};
 ghost use Rattle.ace_order.specs.Order.{OrderStands};
@@ -21,7 +22,7 @@ use ace_engine::Engine;
 use ace_event::Event;
 use ace_home::Home;
 use ace_io::NoMemory;
-use ace_model::{Op, PlanView};
+use ace_model::{Among, Op, PlanView};
 use ace_order::Order;
 use ace_script::Plan;
 use ace_update::Update;
@@ -159,6 +160,20 @@ impl System {
         ensures idle { result ≡ Turn.Idle → (self.new ≡ self.old) × (is_enabled self.old.plan self.old.past port ≡ false) }
     {
         self.run.turn(port)
+    }
+
+    /// A turn of the port, as `turn` takes it, that snoops for each line only ports of a set, which has
+    /// each ACE port whose state of the line isn't I. It takes no memory.
+    pub fn turn_among<F: Among>(&mut self, port: u8, among: &F) -> Turn
+        requires port { port < self.old.plan.header.ports }
+        requires holders { HasHolders (F.has among.now) self.old.plan.header self.old.past }
+        ensures moved { result ≡ Turn.Moved → (burst : List Event)
+            × IsStepAmong (F.has among.now) self.old.plan self.old.past port burst
+            × (self.new ≡ continued burst self.old) }
+        ensures idle { result ≡ Turn.Idle → (self.new ≡ self.old)
+            × (is_enabled_among (F.has among.now) self.old.plan self.old.past port ≡ false) }
+    {
+        self.run.turn_among(port, among)
     }
 
     /// Whether the run is done: every operation has retired, no transaction is outstanding, no snoop is unanswered, and no DVM Complete is owed.

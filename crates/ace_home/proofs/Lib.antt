@@ -6,6 +6,10 @@ pub mod Waiting
 pub mod FirstEvents
 -- A header of version 1 has few ports.
 pub mod FewPorts
+-- The steps in which only ports of sets are snooped.
+pub mod Among
+-- A run in which only ports of sets are snooped goes on.
+pub mod GoesOnAmong
 -- Snoops for one transaction, one after the other.
 pub mod Snoops
 -- The first of the steps that are due.

@@ -26,9 +26,9 @@ use Rattle.ace_model.proofs.Grants.Granted.{data_may, granted_write}
 use Rattle.ace_model.proofs.Rules.Keeps.{accepted_keeps}
 use Rattle.ace_model.proofs.Trace.WriteQueue.{done_write}
 use Rattle.ace_runs.specs.Bursts.{is_kept, may_begin, may_serve, onto, serves}
-use Rattle.ace_runs.specs.LineSteps.{grant_burst, gives_snoops, is_first_to_wait, is_last_beat, is_snoop_for, may_snoop, memory_write, next_word, passed_burst, response, response_bits, snoop_for, takes_dirt, transfer_burst, write_burst}
+use Rattle.ace_runs.specs.LineSteps.{grant_burst, is_first_to_wait, is_last_beat, memory_write, next_word, passed_burst, response, response_bits, snoop_for, takes_dirt, transfer_burst, write_burst}
 use Rattle.ace_runs.specs.SameEvents.{same_burst}
-use Rattle.ace_runs.specs.Steps.{is_enabled_by, is_sound, is_step_by}
+use Rattle.ace_runs.specs.Steps.{is_sound}
 use Rattle.ace_runs.proofs.Accepting.{kept-breaks-none}
 use Rattle.ace_model.proofs.Trace.IssuedTransactions.{issuer-low}
 use Rattle.ace_runs.proofs.NeverStuck.Steps.SameBursts.{burst-self}
@@ -38,11 +38,12 @@ use Rattle.ace_engine.specs.Engines.{IsLegal}
 use Rattle.ace_engine.proofs.OfInterconnect.{legal-with}
 use Rattle.ace_home.specs.declared.service.Service.{Service}
 use Rattle.ace_home.specs.declared.service.Service.TheVariants as service
+use Rattle.ace_home.specs.Among.{PortSets, are_snoops_among, gives_snoops_among, has_snoop_among, is_enabled_by_among, is_snoop_among, is_step_by_among, may_snoop_among}
 use Rattle.ace_home.specs.Home.{HomeStands, IsOf}
 use Rattle.ace_home.specs.declared.home.Home.{Home}
-use Rattle.ace_home.specs.Services.{IsService, TakesNoneBelow, all_steps, are_snoops, first_kept, first_of, gives_for, has_snoop, number_of, responds}
+use Rattle.ace_home.specs.Services.{IsService, TakesNoneBelow, all_steps, first_kept, first_of, gives_for, number_of, responds}
 use Rattle.ace_home.specs.declared.due.Due.{Due}
-use Rattle.ace_home.specs.Turns.{AreSnoops, IsDue, IsFirst, IsLeastStep, IsServing, lesser_steps}
+use Rattle.ace_home.specs.Turns.{AreSnoops, IsDue, IsFirst, IsLeastStepAmong, IsServing, lesser_steps}
 use Rattle.ace_home.proofs.FewPorts.{few-ports}
 use Rattle.ace_home.proofs.Snoops.{no-snoop-left}
 use Rattle.ace_home.proofs.FirstEvents.{kept-some}
@@ -110,7 +111,7 @@ written h past x e is = elim (cases_Bool (not (is_read x.chan) && takes_grant x)
       }
 ]
 
-module _ (plan : Plan) (past : Trace) (legal : IsLegal plan past) (p : ℕ) (x : Transaction) (o : IsOf plan.header past p x) where
+module _ (among : PortSets) (plan : Plan) (past : Trace) (legal : IsLegal plan past) (p : ℕ) (x : Transaction) (o : IsOf plan.header past p x) where
   abbrev h : Header
   h = plan.header
 
@@ -132,10 +133,10 @@ module _ (plan : Plan) (past : Trace) (legal : IsLegal plan past) (p : ℕ) (x :
   legal-of : (d e : Event) → d ≡ e → IsLegal plan (d ∷ past) → IsLegal plan (e ∷ past)
   legal-of d e same l = subst (λ v. IsLegal plan (v ∷ past)) same l
 
-  pub legal-first : (s : Service) (d : Event) → first_of s ≡ Some d → IsService h past x s → IsLegal plan (d ∷ past)
+  pub legal-first : (s : Service) (d : Event) → first_of s ≡ Some d → IsService among h past x s → IsLegal plan (d ∷ past)
   legal-first s d first is = by s first is
     where
-      by : (s : Service) → first_of s ≡ Some d → IsService h past x s → IsLegal plan (d ∷ past)
+      by : (s : Service) → first_of s ≡ Some d → IsService among h past x s → IsLegal plan (d ∷ past)
       by (service.Grant e) first is =
           let g = grant-is e is in
           legal-of (G x.port x.chan x.id) d (g.1 ∙ Some-injective e d first) (legal-with plan past (G x.port x.chan x.id) refl legal g.0)
@@ -225,13 +226,13 @@ module _ (plan : Plan) (past : Trace) (legal : IsLegal plan past) (p : ℕ) (x :
 
   -- The burst is one of the step for the transaction.
   pub record Serves (n : ℕ) (burst : List Event) : Type 0 where
-    pub step : is_step_by (n ∷ []) plan past p burst ≡ true
-    pub gives : gives_for n h past x burst ≡ true
+    pub step : is_step_by_among among (n ∷ []) plan past p burst ≡ true
+    pub gives : gives_for among n h past x burst ≡ true
 
-  pub serves-step : (s : Service) (d : Event) → first_of s ≡ Some d → IsService h past x s → Serves (number_of s) (d ∷ (if responds s then response x else []))
+  pub serves-step : (s : Service) (d : Event) → first_of s ≡ Some d → IsService among h past x s → Serves (number_of s) (d ∷ (if responds s then response x else []))
   serves-step s d first is = by s first is
     where
-      by : (s : Service) → first_of s ≡ Some d → IsService h past x s → Serves (number_of s) (d ∷ (if responds s then response x else []))
+      by : (s : Service) → first_of s ≡ Some d → IsService among h past x s → Serves (number_of s) (d ∷ (if responds s then response x else []))
       by (service.Grant e) first is =
           let g = grant-is e is in
           let kept : is_kept h past e ≡ true = subst (λ v. is_kept h past v ≡ true) g.1 g.0 in
@@ -263,10 +264,10 @@ module _ (plan : Plan) (past : Trace) (legal : IsLegal plan past) (p : ℕ) (x :
           })
 
   -- the response after the first event of a write
-  pub legal-second : (s : Service) (d : Event) → first_of s ≡ Some d → IsService h past x s → responds s ≡ true → IsLegal plan (B x.port x.id 0 ∷ d ∷ past)
+  pub legal-second : (s : Service) (d : Event) → first_of s ≡ Some d → IsService among h past x s → responds s ≡ true → IsLegal plan (B x.port x.id 0 ∷ d ∷ past)
   legal-second s d first is t = by s first is t
     where
-      by : (s : Service) → first_of s ≡ Some d → IsService h past x s → responds s ≡ true → IsLegal plan (B x.port x.id 0 ∷ d ∷ past)
+      by : (s : Service) → first_of s ≡ Some d → IsService among h past x s → responds s ≡ true → IsLegal plan (B x.port x.id 0 ∷ d ∷ past)
       by (service.Write e) first is t = subst (λ v. IsLegal plan (B x.port x.id 0 ∷ v ∷ past)) (Some-injective e d first) (legal-response e is)
       by (service.Grant e) first is t = cc
       by service.Snoops first is t = cc
@@ -275,12 +276,12 @@ module _ (plan : Plan) (past : Trace) (legal : IsLegal plan past) (p : ℕ) (x :
 
   -- ---- snoops ----
 
-  module _ (s : Home) (k : SnoopKind) (burst : List Event) (caused : snoop_of x ≡ Some k) (has : has_snoop h past x ≡ true) (b : AreSnoops s plan past x k h.ports burst) where
+  module _ (s : Home) (k : SnoopKind) (burst : List Event) (caused : snoop_of x ≡ Some k) (has : has_snoop_among among h past x ≡ true) (b : AreSnoops among s plan past x k h.ports burst) where
     some-event : nat_le 1 (length burst) ≡ true
     some-event = le-leb 1 (length burst) (more burst b)
       where
-        more : (es : List Event) → AreSnoops s plan past x k h.ports es → 1 ≤ length es
-        more [] none = let no = no-snoop-left h past x k caused none.none in cc
+        more : (es : List Event) → AreSnoops among s plan past x k h.ports es → 1 ≤ length es
+        more [] none = let no = no-snoop-left among h past x k caused none.none in cc
         more (e ∷ es) b = omega arith
 
     few-events : nat_le (length burst) 16 ≡ true
@@ -289,25 +290,25 @@ module _ (plan : Plan) (past : Trace) (legal : IsLegal plan past) (p : ℕ) (x :
         let most = b.few in
         le-leb (length burst) 16 (omega (arith, few, most))
 
-    pub snoops-given : are_snoops h past x burst ≡ true
+    pub snoops-given : are_snoops_among among h past x burst ≡ true
     snoops-given =
-        and_from _ _ (and_parts (is_granted h past x) _ has).0 (ap (λ v. is_some_and v (λ j. list_all (is_snoop_for x j) burst)) caused ∙ b.all)
+        and_from _ _ (and_parts (is_granted h past x) _ has).0 (ap (λ v. is_some_and v (λ j. list_all (is_snoop_among among x j) burst)) caused ∙ b.all)
 
-    pub snoops-step : is_step_by (6 ∷ []) plan past p burst ≡ true
+    pub snoops-step : is_step_by_among among (6 ∷ []) plan past p burst ≡ true
     snoops-step =
         and_from (is_sound h past burst) _ (and_from _ _ (and_from _ _ some-event few-events) b.kept)
-        (or_left (may_snoop h past p && gives_snoops h past p burst) _ (and_from _ _ (some-passes h past p (has_snoop h past) x o has)
-        (some-passes h past p (λ y. are_snoops h past y burst) x o snoops-given)))
+        (or_left (may_snoop_among among h past p && gives_snoops_among among h past p burst) _ (and_from _ _ (some-passes h past p (has_snoop_among among h past) x o has)
+        (some-passes h past p (λ y. are_snoops_among among h past y burst) x o snoops-given)))
 
-    pub snoops-left : has_snoop h (onto burst past) x ≡ false
-    snoops-left = no-snoop-left h (onto burst past) x k caused b.none
+    pub snoops-left : has_snoop_among among h (onto burst past) x ≡ false
+    snoops-left = no-snoop-left among h (onto burst past) x k caused b.none
 
 -- ---- the whole step ----------------------------------------------------------------------------------
 
 -- a step with one first event
-pub served-by : (plan : Plan) (past : Trace) (legal : IsLegal plan past) (p : ℕ) (d : Due) (due : IsDue plan.header past p d) (e : Event) → first_of d.service ≡ Some e → (s : Home) (burst : List Event)
-    → Serves plan past legal p d.transaction due.pending (number_of d.service) burst → HomeStands s plan (onto burst past) → IsServing s plan past p d burst
-served-by plan past legal p d due e first s burst serves stands = record {
+pub served-by : (among : PortSets) (plan : Plan) (past : Trace) (legal : IsLegal plan past) (p : ℕ) (d : Due) (due : IsDue among plan.header past p d) (e : Event) → first_of d.service ≡ Some e → (s : Home) (burst : List Event)
+    → Serves among plan past legal p d.transaction due.pending (number_of d.service) burst → HomeStands s plan (onto burst past) → IsServing among s plan past p d burst
+served-by among plan past legal p d due e first s burst serves stands = record {
   step = serves.step;
   gives = serves.gives;
   snooped = λ six. absurd (no-six d.service first six);
@@ -328,36 +329,36 @@ are-snoops (service.Passed e) none = cc
 are-snoops (service.Transfer e) none = cc
 are-snoops (service.Write e) none = cc
 
-pub snoops-caused : (plan : Plan) (past : Trace) (p : ℕ) (d : Due) → IsDue plan.header past p d → first_of d.service ≡ None → (k : SnoopKind) × (snoop_of d.transaction ≡ Some k)
-snoops-caused plan past p d due none =
+pub snoops-caused : (among : PortSets) (plan : Plan) (past : Trace) (p : ℕ) (d : Due) → IsDue among plan.header past p d → first_of d.service ≡ None → (k : SnoopKind) × (snoop_of d.transaction ≡ Some k)
+snoops-caused among plan past p d due none =
     let h = plan.header in
     let x = d.transaction in
-    let has : has_snoop h past x ≡ true = subst (IsService h past x) (are-snoops d.service none) due.serves in
-    let k = is_some_and-is (snoop_of x) (λ k. list_any (λ q. is_kept h past (snoop_for x k q)) (ports_below h.ports)) (and_parts (is_granted h past x) _ has).1 in
+    let has : has_snoop_among among h past x ≡ true = subst (IsService among h past x) (are-snoops d.service none) due.serves in
+    let k = is_some_and-is (snoop_of x) (λ k. list_any (λ q. among x.addr q && is_kept h past (snoop_for x k q)) (ports_below h.ports)) (and_parts (is_granted h past x) _ has).1 in
     (k.0, k.1)
 
-pub snoops-served : (plan : Plan) (past : Trace) (legal : IsLegal plan past) (p : ℕ) (d : Due) → IsDue plan.header past p d → first_of d.service ≡ None → (s : Home) (k : SnoopKind)
-    → snoop_of d.transaction ≡ Some k → (burst : List Event) → AreSnoops s plan past d.transaction k plan.header.ports burst → IsServing s plan past p d burst
-snoops-served plan past legal p d due none s k caused burst b =
+pub snoops-served : (among : PortSets) (plan : Plan) (past : Trace) (legal : IsLegal plan past) (p : ℕ) (d : Due) → IsDue among plan.header past p d → first_of d.service ≡ None → (s : Home) (k : SnoopKind)
+    → snoop_of d.transaction ≡ Some k → (burst : List Event) → AreSnoops among s plan past d.transaction k plan.header.ports burst → IsServing among s plan past p d burst
+snoops-served among plan past legal p d due none s k caused burst b =
     let h = plan.header in
     let x = d.transaction in
     let is = are-snoops d.service none in
-    let has : has_snoop h past x ≡ true = subst (IsService h past x) is due.serves in
+    let has : has_snoop_among among h past x ≡ true = subst (IsService among h past x) is due.serves in
     let number = ap number_of is in
     record {
-      step = subst (λ n. is_step_by (n ∷ []) plan past p burst ≡ true) (sym number) (snoops-step plan past legal p x due.pending s k burst caused has b);
-      gives = subst (λ n. gives_for n h past x burst ≡ true) (sym number) (snoops-given plan past legal p x due.pending s k burst caused has b);
-      snooped = λ _. snoops-left plan past legal p x due.pending s k burst caused has b;
+      step = subst (λ n. is_step_by_among among (n ∷ []) plan past p burst ≡ true) (sym number) (snoops-step among plan past legal p x due.pending s k burst caused has b);
+      gives = subst (λ n. gives_for among n h past x burst ≡ true) (sym number) (snoops-given among plan past legal p x due.pending s k burst caused has b);
+      snooped = λ _. snoops-left among plan past legal p x due.pending s k burst caused has b;
       stands = b.stands;
     }
 
 -- a step by one of the home's numbers is one of the home
-module _ (plan : Plan) (past : Trace) (p : ℕ) (burst : List Event) where
+module _ (among : PortSets) (plan : Plan) (past : Trace) (p : ℕ) (burst : List Event) where
   abbrev by-grant : Bool
   by-grant = may_serve grant_burst plan.header past p && serves grant_burst plan.header past p burst
 
   abbrev by-snoops : Bool
-  by-snoops = may_snoop plan.header past p && gives_snoops plan.header past p burst
+  by-snoops = may_snoop_among among plan.header past p && gives_snoops_among among plan.header past p burst
 
   abbrev by-passed : Bool
   by-passed = may_serve passed_burst plan.header past p && serves passed_burst plan.header past p burst
@@ -369,7 +370,7 @@ module _ (plan : Plan) (past : Trace) (p : ℕ) (burst : List Event) where
   by-write = may_serve write_burst plan.header past p && serves write_burst plan.header past p burst
 
   whole : (is_sound plan.header past burst && (by-grant || (by-snoops || (by-passed || (by-transfer || (by-write || false)))))) ≡ true
-      → is_step_by (5 ∷ 6 ∷ 7 ∷ 8 ∷ 9 ∷ []) plan past p burst ≡ true
+      → is_step_by_among among (5 ∷ 6 ∷ 7 ∷ 8 ∷ 9 ∷ []) plan past p burst ≡ true
   whole t = t
 
   sound-and : (b later : Bool) → ((b || false) ≡ true → later ≡ true) → (is_sound plan.header past burst && (b || false)) ≡ true → (is_sound plan.header past burst && later) ≡ true
@@ -379,7 +380,7 @@ module _ (plan : Plan) (past : Trace) (p : ℕ) (burst : List Event) where
   only true t = refl
   only false t = cc
 
-  pub of-home : (s : Service) → is_step_by (number_of s ∷ []) plan past p burst ≡ true → is_step_by (5 ∷ 6 ∷ 7 ∷ 8 ∷ 9 ∷ []) plan past p burst ≡ true
+  pub of-home : (s : Service) → is_step_by_among among (number_of s ∷ []) plan past p burst ≡ true → is_step_by_among among (5 ∷ 6 ∷ 7 ∷ 8 ∷ 9 ∷ []) plan past p burst ≡ true
   of-home (service.Grant e) t = whole (sound-and by-grant _ (λ u. or_left by-grant _ (only by-grant u)) t)
   of-home service.Snoops t = whole (sound-and by-snoops _ (λ u. or_right by-grant _ (or_left by-snoops _ (only by-snoops u))) t)
   of-home (service.Passed e) t = whole (sound-and by-passed _ (λ u. or_right by-grant _ (or_right by-snoops _ (or_left by-passed _ (only by-passed u)))) t)
@@ -393,15 +394,15 @@ module _ (plan : Plan) (past : Trace) (p : ℕ) (burst : List Event) where
 or-none : (a b : Bool) → a ≡ false → b ≡ false → (a || b) ≡ false
 or-none a b f g = rw (f, g) refl
 
-module _ (plan : Plan) (past : Trace) (p : ℕ) where
+module _ (among : PortSets) (plan : Plan) (past : Trace) (p : ℕ) where
   abbrev none-below-of : ℕ → Type 0
-  none-below-of n = (y : Transaction) → IsOf plan.header past p y → TakesNoneBelow n plan.header past y
+  none-below-of n = (y : Transaction) → IsOf plan.header past p y → TakesNoneBelow among n plan.header past y
 
   no-grant : (n : ℕ) → 5 < n → none-below-of n → may_serve grant_burst plan.header past p ≡ false
   no-grant n low none = none-passes plan.header past p (λ y. may_begin plan.header past (grant_burst plan.header past y)) (λ y o. none y o 5 low)
 
-  no-snoop : (n : ℕ) → 6 < n → none-below-of n → may_snoop plan.header past p ≡ false
-  no-snoop n low none = none-passes plan.header past p (has_snoop plan.header past) (λ y o. none y o 6 low)
+  no-snoop : (n : ℕ) → 6 < n → none-below-of n → may_snoop_among among plan.header past p ≡ false
+  no-snoop n low none = none-passes plan.header past p (has_snoop_among among plan.header past) (λ y o. none y o 6 low)
 
   no-passed : (n : ℕ) → 7 < n → none-below-of n → may_serve passed_burst plan.header past p ≡ false
   no-passed n low none = none-passes plan.header past p (λ y. may_begin plan.header past (passed_burst plan.header past y)) (λ y o. none y o 7 low)
@@ -412,12 +413,12 @@ module _ (plan : Plan) (past : Trace) (p : ℕ) where
   no-write : (n : ℕ) → 9 < n → none-below-of n → may_serve write_burst plan.header past p ≡ false
   no-write n low none = none-passes plan.header past p (λ y. may_begin plan.header past (write_burst plan.header past y)) (λ y o. none y o 9 low)
 
-  pub none-enabled : none-below-of all_steps → is_enabled_by (5 ∷ 6 ∷ 7 ∷ 8 ∷ 9 ∷ []) plan past p ≡ false
+  pub none-enabled : none-below-of all_steps → is_enabled_by_among among (5 ∷ 6 ∷ 7 ∷ 8 ∷ 9 ∷ []) plan past p ≡ false
   none-enabled none =
       or-none _ _ (no-grant 10 (omega arith) none) (or-none _ _ (no-snoop 10 (omega arith) none) (or-none _ _ (no-passed 10 (omega arith) none)
       (or-none _ _ (no-transfer 10 (omega arith) none) (or-none _ _ (no-write 10 (omega arith) none) refl))))
 
-  pub no-lesser : (s : Service) → none-below-of (number_of s) → is_enabled_by (lesser_steps (number_of s)) plan past p ≡ false
+  pub no-lesser : (s : Service) → none-below-of (number_of s) → is_enabled_by_among among (lesser_steps (number_of s)) plan past p ≡ false
   no-lesser (service.Grant e) none = refl
   no-lesser service.Snoops none = or-none _ _ (no-grant 6 (omega arith) none) refl
   no-lesser (service.Passed e) none = or-none _ _ (no-grant 7 (omega arith) none) (or-none _ _ (no-snoop 7 (omega arith) none) refl)
@@ -427,15 +428,15 @@ module _ (plan : Plan) (past : Trace) (p : ℕ) where
       or-none _ _ (no-grant 9 (omega arith) none) (or-none _ _ (no-snoop 9 (omega arith) none) (or-none _ _ (no-passed 9 (omega arith) none)
       (or-none _ _ (no-transfer 9 (omega arith) none) refl)))
 
-pub least-step : (plan : Plan) (past : Trace) (p : ℕ) (s : Home) (d : Due) (burst : List Event) → IsFirst plan.header past p (IsOf plan.header past p) d → IsServing s plan past p d burst
-    → IsLeastStep plan past p burst
-least-step plan past p s d burst first serving = record {
+pub least-step : (among : PortSets) (plan : Plan) (past : Trace) (p : ℕ) (s : Home) (d : Due) (burst : List Event) → IsFirst among plan.header past p (IsOf plan.header past p) d → IsServing among s plan past p d burst
+    → IsLeastStepAmong among plan past p burst
+least-step among plan past p s d burst first serving = record {
   number = number_of d.service;
   served = d.transaction;
   step = serving.step;
   pending = first.due.pending;
   gives = serving.gives;
-  least = no-lesser plan past p d.service first.least;
+  least = no-lesser among plan past p d.service first.least;
   oldest = first.oldest;
   snooped = serving.snooped;
 }

@@ -1,5 +1,5 @@
 -- Snoops for one transaction, one after the other: a port that may not be snooped may not be snooped later either.
-use Rattle.std.proofs.Common.{◌≡◌, ℕ, ◌+◌, ◌<◌, Bool, true, false, not, ◌&&◌, ◌||◌, ◌==◌, nat_lt, if◌then◌else◌, List, [], ◌∷◌, ◌++◌, length, length-append, Option, Some, None, is_some, slice_get, refl, sym, ap, subst, ◌∙◌, inl, inr, arith}
+use Rattle.std.proofs.Common.{◌≡◌, ℕ, ◌+◌, ◌<◌, Bool, true, false, not, ◌&&◌, ◌||◌, ◌==◌, nat_lt, List, [], ◌∷◌, ◌++◌, length, length-append, Option, Some, None, is_some, slice_get, refl, sym, ap, subst, ◌∙◌, inl, inr, arith}
 use Rattle.std.specs.List.{list_any}
 use Rattle.std.proofs.lemmas.Bool.{and_from, and_parts, cases_Bool, cases_eq, eq-eqb, false_from_ne_true, ltb-true, ne_eqb, not-true, or_left, or_right}
 use Rattle.std.proofs.lemmas.List.{append-nil}
@@ -10,7 +10,7 @@ use Rattle.ace_event.specs.declared.event.Event.TheVariants.{Ac}
 use Rattle.ace_event.specs.declared.header.Header.{Header}
 use Rattle.ace_model.specs.declared.transactions.Transaction.{Transaction}
 use Rattle.ace_model.specs.Accepted.{IsAccepted}
-use Rattle.ace_model.specs.Grants.{granted, is_begun, is_granted, ports_below, was_snooped}
+use Rattle.ace_model.specs.Grants.{granted, is_granted, ports_below, was_snooped}
 use Rattle.ace_model.specs.Kinds.{is_line_snoop, is_message_snoop}
 use Rattle.ace_model.specs.Messages.{first_waiting, forwarded, is_second_part, next_part, parts_among, parts_for}
 use Rattle.ace_model.specs.OrderRules.{completes_next, forwards_next}
@@ -19,15 +19,15 @@ use Rattle.ace_model.specs.SnoopRules.{may_snoop, may_snoop_for}
 use Rattle.ace_model.specs.Snoops.{snoops_a_line}
 use Rattle.ace_model.specs.States.{owes_wack}
 use Rattle.ace_model.specs.Trace.{Trace, implies, is_none_or, is_some_and}
-use Rattle.ace_model.specs.Transactions.{is_ace, is_read, snoop_of, transfers}
+use Rattle.ace_model.specs.Transactions.{is_ace, snoop_of}
 use Rattle.ace_model.proofs.Dvm.Parts.{IsBelow, parts-placed}
 use Rattle.ace_model.proofs.General.Lists.{slice_get-all}
-use Rattle.ace_model.proofs.General.Options.{is_none_or-at, is_some_and-at, is_some_and-is}
+use Rattle.ace_model.proofs.General.Options.{is_none_or-at}
 use Rattle.ace_model.proofs.Rules.Keeps.{Keeps, accepted_keeps}
 use Rattle.ace_model.proofs.Tables.ReadSnoops.{kind_of_code}
 use Rattle.ace_model.proofs.Trace.Growth.{at_point-before}
 use Rattle.ace_runs.specs.Bursts.{are_kept, is_kept, onto}
-use Rattle.ace_runs.specs.LineSteps.{is_snoop_for, snoop_for}
+use Rattle.ace_runs.specs.LineSteps.{snoop_for}
 use Rattle.ace_runs.proofs.Accepting.{kept-breaks-none}
 use Rattle.ace_runs.proofs.NeverStuck.Data.WholeAnswers.{line-not-complete}
 use Rattle.ace_runs.proofs.NeverStuck.Forwarding.Steps.{caused-line, line-no-message}
@@ -36,14 +36,11 @@ use Rattle.ace_runs.proofs.NeverStuck.Steps.SameEvents.{event-self}
 use Rattle.ace_runs.proofs.NeverStuck.Transactions.SnoopsKept.{ac-kept}
 use Rattle.ace_model.proofs.General.Ports.{none_at}
 use Rattle.ace_engine.proofs.Heard.{onto-append}
-use Rattle.ace_portck.specs.declared.target.Progress.{Progress}
-use Rattle.ace_portck.specs.Targets.{progress_of}
 use Rattle.ace_home.specs.declared.home.Home.{Home}
 use Rattle.ace_home.specs.Home.{HomeStands}
-use Rattle.ace_home.specs.Services.{has_snoop}
+use Rattle.ace_home.specs.Among.{PortSets, has_snoop_among, is_snoop_among}
 use Rattle.ace_home.specs.Turns.{AreSnoops}
 use Rattle.ace_home.proofs.FirstEvents.{none-below}
-use Rattle.ace_home.proofs.Transfers.{transfers-told}
 
 -- ---- one snoop ---------------------------------------------------------------------------------------
 
@@ -149,16 +146,20 @@ kept-append h past [] e kept last = and_from _ _ last refl
 kept-append h past (d ∷ burst) e kept last =
     let parts = and_parts (is_kept h past d) (are_kept h (d ∷ past) burst) kept in and_from _ _ parts.0 (kept-append h (d ∷ past) burst e parts.1 last)
 
-module _ (plan : Plan) (past : Trace) (x : Transaction) (k : SnoopKind) where
+and-off : (b c : Bool) → c ≡ false → (b && c) ≡ false
+and-off true c f = f
+and-off false c f = refl
+
+module _ (among : PortSets) (plan : Plan) (past : Trace) (x : Transaction) (k : SnoopKind) where
   abbrev ac : ℕ → Event
   ac q = snoop_for x k q
 
-  pub no-snoops : (s : Home) → HomeStands s plan past → AreSnoops s plan past x k 0 []
+  pub no-snoops : (s : Home) → HomeStands s plan past → AreSnoops among s plan past x k 0 []
   no-snoops s stands = record { stands = stands; kept = refl; all = refl; few = omega arith; none = λ q low. absurd (omega (arith, low)) }
 
   -- a port that may not be snooped has none
-  pub snoops-as-before : (s : Home) (n : ℕ) (burst : List Event) → AreSnoops s plan past x k n burst → is_kept plan.header (onto burst past) (ac n) ≡ false
-      → AreSnoops s plan past x k (n + 1) burst
+  pub snoops-as-before : (s : Home) (n : ℕ) (burst : List Event) → AreSnoops among s plan past x k n burst
+      → (among x.addr n && is_kept plan.header (onto burst past) (ac n)) ≡ false → AreSnoops among s plan past x k (n + 1) burst
   snoops-as-before s n burst b none = record {
     stands = b.stands;
     kept = b.kept;
@@ -166,13 +167,13 @@ module _ (plan : Plan) (past : Trace) (x : Transaction) (k : SnoopKind) where
     few = let few = b.few in omega (arith, few);
     none = λ q low. elim (cases_eq q n) [
       | inr earlier ↦ b.none q (omega (arith, low, earlier))
-      | inl here ↦ ap (λ r. is_kept plan.header (onto burst past) (ac r)) here ∙ none
+      | inl here ↦ ap (λ r. among x.addr r && is_kept plan.header (onto burst past) (ac r)) here ∙ none
     ];
   }
 
-  pub snoops-with : (s later : Home) (n : ℕ) (burst : List Event) → snoop_of x ≡ Some k → AreSnoops s plan past x k n burst → is_kept plan.header (onto burst past) (ac n) ≡ true
-      → HomeStands later plan (ac n ∷ onto burst past) → AreSnoops later plan past x k (n + 1) (burst ++ ac n ∷ [])
-  snoops-with s later n burst caused b kept stands =
+  pub snoops-with : (s later : Home) (n : ℕ) (burst : List Event) → snoop_of x ≡ Some k → AreSnoops among s plan past x k n burst → among x.addr n ≡ true
+      → is_kept plan.header (onto burst past) (ac n) ≡ true → HomeStands later plan (ac n ∷ onto burst past) → AreSnoops among later plan past x k (n + 1) (burst ++ ac n ∷ [])
+  snoops-with s later n burst caused b own kept stands =
       let h = plan.header in
       let t = onto burst past in
       let joined : onto (burst ++ ac n ∷ []) past ≡ ac n ∷ t = onto-append burst (ac n ∷ []) past in
@@ -180,66 +181,37 @@ module _ (plan : Plan) (past : Trace) (x : Transaction) (k : SnoopKind) where
       record {
         stands = subst (HomeStands later plan) (sym joined) stands;
         kept = kept-append h past burst (ac n) b.kept kept;
-        all = all-append (is_snoop_for x k) burst (ac n ∷ []) b.all (and_from _ _ (event-self (ac n)) refl);
+        all = all-append (is_snoop_among among x k) burst (ac n ∷ []) b.all (and_from _ _ (and_from (among x.addr n) _ own (event-self (ac n))) refl);
         few = let few = b.few in let long = length-append burst (ac n ∷ []) in omega (arith, few, long);
-        none = λ q low. ap (λ u. is_kept h u (ac q)) joined ∙ elim (cases_eq q n) [
-          | inl here ↦ ap (λ r. is_kept h (ac n ∷ t) (ac r)) here ∙ not-again h t x k caused n a
+        none = λ q low. ap (λ u. among x.addr q && is_kept h u (ac q)) joined ∙ elim (cases_eq q n) [
+          | inl here ↦ and-off (among x.addr q) (is_kept h (ac n ∷ t) (ac q)) (ap (λ r. is_kept h (ac n ∷ t) (ac r)) here ∙ not-again h t x k caused n a)
           | inr earlier ↦
               let before = b.none q (omega (arith, low, earlier)) in
-              false_from_ne_true (is_kept h (ac n ∷ t) (ac q)) (λ again. let was = kept-before h t x k caused n a q (ne_eqb q n earlier) again in cc)
+              false_from_ne_true (among x.addr q && is_kept h (ac n ∷ t) (ac q)) (λ again.
+              let parts = and_parts (among x.addr q) (is_kept h (ac n ∷ t) (ac q)) again in
+              let was : (among x.addr q && is_kept h t (ac q)) ≡ true =
+              and_from (among x.addr q) _ parts.0 (kept-before h t x k caused n a q (ne_eqb q n earlier) parts.1) in
+              let bad : true ≡ false = sym was ∙ before in cc)
         ];
       }
 
--- after them no port may be snooped
-pub no-snoop-left : (h : Header) (t : Trace) (x : Transaction) (k : SnoopKind) → snoop_of x ≡ Some k → ((q : ℕ) → q < h.ports → is_kept h t (snoop_for x k q) ≡ false)
-    → has_snoop h t x ≡ false
-no-snoop-left h t x k caused none =
-    ap (λ v. is_granted h t x && is_some_and v (λ j. list_any (λ q. is_kept h t (snoop_for x j q)) (ports_below h.ports))) caused
-    ∙ ap (λ b. is_granted h t x && b) (none-below h.ports (λ q. is_kept h t (snoop_for x k q)) none)
-    ∙ off (is_granted h t x)
-  where
-    off : (b : Bool) → (b && false) ≡ false
-    off true = refl
-    off false = refl
-
--- ---- none once a read has begun ----------------------------------------------------------------------
-
-pub begun-unsnooped : (h : Header) (past : Trace) (x : Transaction) → IsAccepted h past → granted h past x.addr ≡ Some x → is_begun past x ≡ true → has_snoop h past x ≡ false
-begun-unsnooped h past x a holds begun =
-    false_from_ne_true (has_snoop h past x) (λ has.
-    let of = (and_parts (is_granted h past x) _ has).1 in
-    let k = is_some_and-is (snoop_of x) (λ k. list_any (λ q. is_kept h past (snoop_for x k q)) (ports_below h.ports)) of in
-    let none = no-snoop-left h past x k.0 k.1 (λ q low. false_from_ne_true (is_kept h past (snoop_for x k.0 q)) (λ kept.
-    let may = kept-may h past a q x.addr (ac_code k.0) kept (line-code x k.0 k.1) in
-    let two = and_parts (is_some_and (granted h past x.addr) (λ y. may_snoop_for past y q (ac_code k.0)) && not (was_snooped past q x.addr)) (not (owes_wack h past q x.addr)) may in
-    let one = (and_parts (is_some_and (granted h past x.addr) (λ y. may_snoop_for past y q (ac_code k.0))) (not (was_snooped past q x.addr)) two.0).0 in
-    let own = is_some_and-at (granted h past x.addr) (λ y. may_snoop_for past y q (ac_code k.0)) x one holds in
-    let unbegun = not-true (is_begun past x) (and_parts _ (not (is_begun past x)) own).1 in cc)) in cc)
-
--- a read that has had a transfer has begun
-pub answered-unsnooped : (h : Header) (past : Trace) (x : Progress) → IsAccepted h past → x ≡ progress_of h past x.transaction → granted h past x.transaction.addr ≡ Some x.transaction
-    → (x.transfers == 0) ≡ false → has_snoop h past x.transaction ≡ false
-answered-unsnooped h past x a is holds some =
-    elim (cases_Bool (is_read x.transaction.chan)) [
-      | inl reads ↦
-          let count = transfers-told h past x is reads in
-          let begun : is_begun past x.transaction ≡ true = rw reads (ap (λ n. not (n == 0)) (sym count) ∙ ap not some) in
-          begun-unsnooped h past x.transaction a holds begun
-      | inr writes ↦
-          let none : x.transfers ≡ 0 =
-          ap (λ (v : Progress). v.transfers) is ∙ ap (λ (b : Bool). if b then transfers past x.transaction.port x.transaction.id else 0) writes in
-          let bad : (0 == 0) ≡ false = ap (λ n. n == 0) (sym none) ∙ some in cc
-    ]
+-- after them no port of the set may be snooped
+pub no-snoop-left : (among : PortSets) (h : Header) (t : Trace) (x : Transaction) (k : SnoopKind) → snoop_of x ≡ Some k
+    → ((q : ℕ) → q < h.ports → (among x.addr q && is_kept h t (snoop_for x k q)) ≡ false) → has_snoop_among among h t x ≡ false
+no-snoop-left among h t x k caused none =
+    ap (λ v. is_granted h t x && is_some_and v (λ j. list_any (λ q. among x.addr q && is_kept h t (snoop_for x j q)) (ports_below h.ports))) caused
+    ∙ ap (λ b. is_granted h t x && b) (none-below h.ports (λ q. among x.addr q && is_kept h t (snoop_for x k q)) none)
+    ∙ and-off (is_granted h t x) false refl
 
 -- a port that may be snooped
-pub has-snoop-at : (h : Header) (past : Trace) (x : Transaction) (k : SnoopKind) (q : ℕ) → IsAccepted h past → is_granted h past x ≡ true → snoop_of x ≡ Some k
-    → is_kept h past (snoop_for x k q) ≡ true → has_snoop h past x ≡ true
-has-snoop-at h past x k q a granted caused kept =
+pub has-snoop-at : (among : PortSets) (h : Header) (past : Trace) (x : Transaction) (k : SnoopKind) (q : ℕ) → IsAccepted h past → is_granted h past x ≡ true → snoop_of x ≡ Some k
+    → among x.addr q ≡ true → is_kept h past (snoop_for x k q) ≡ true → has_snoop_among among h past x ≡ true
+has-snoop-at among h past x k q a granted caused own kept =
     let keeps = kept-keeps h past a q x.addr (ac_code k) kept in
     let low = (and_parts (nat_lt q h.ports) (is_ace h q) keeps.rule_1).0 in
     and_from _ _ granted
-    (ap (λ v. is_some_and v (λ j. list_any (λ r. is_kept h past (snoop_for x j r)) (ports_below h.ports))) caused
-    ∙ some-below h.ports (λ r. is_kept h past (snoop_for x k r)) q low kept)
+    (ap (λ v. is_some_and v (λ j. list_any (λ r. among x.addr r && is_kept h past (snoop_for x j r)) (ports_below h.ports))) caused
+    ∙ some-below h.ports (λ r. among x.addr r && is_kept h past (snoop_for x k r)) q low (and_from (among x.addr q) _ own kept))
   where
     some-below : (n : ℕ) (test : ℕ → Bool) (q : ℕ) → nat_lt q n ≡ true → test q ≡ true → list_any test (ports_below n) ≡ true
     some-below n test q low t = elim (cases_Bool (list_any test (ports_below n))) [

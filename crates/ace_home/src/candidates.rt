@@ -1,6 +1,7 @@
 //! The first event of the burst of each step, where it breaks no rule.
 
-ghost use Rattle.std.specs.Prelude.{◌≡◌, ◌+◌, ◌==◌, ◌&&◌, ℕ, false, not, Option, if◌then◌else◌};
+ghost use Rattle.std.specs.Prelude.{◌≡◌, ◌<◌, ◌+◌, ◌==◌, ◌&&◌, ℕ, false, not, Option, if◌then◌else◌};
+ghost use Rattle.std.specs.Int.{bit_at};
 ghost use Rattle.ace_event.specs.declared.event.Channel.TheVariants.{Read as Reads, Write as Writes};
 ghost use Rattle.ace_event.specs.declared.event.Event.TheVariants.{M, R};
 ghost use Rattle.ace_model.specs.Copies.{is_line_read_transaction, word_of};
@@ -15,6 +16,7 @@ ghost use Rattle.ace_portck.specs.declared.target.Progress.{Progress as Progress
 ghost use Rattle.ace_portck.specs.Targets.{Recording, data_of_write};
 ghost use Rattle.ace_lineck.specs.Stands.{Stands, place_on};
 ghost use Rattle.ace_lineck.specs.Waiting.{is_answering};
+ghost use Rattle.ace_home.specs.Among.{PortSets, has_snoop_among};
 ghost use Rattle.ace_home.specs.Home.{HomeStands, IsOf, IsServed, Tells};
 ghost use Rattle.ace_home.specs.Services.{IsReply, first_kept, has_snoop, if_kept};
 
@@ -24,9 +26,16 @@ use crate::service::Service;
 use ace_codes::{SnoopKind, ac_code};
 use ace_event::{Event, Line};
 use ace_lineck::{LineCheck, is_line_read_transaction, snoop_of};
-use ace_model::Transaction;
 use ace_model::kinds::{beats_of, is_ace, read_kind};
+use ace_model::{Among, Transaction};
 use ace_portck::{Progress, WriteData};
+
+/// The port is one of these, of which bit p says whether port p is.
+fn has_port(ports: u32, port: u8) -> bool
+    ensures { port < 32 → result ≡ (bit_at ports port == 1) }
+{
+    port < 32 && ports >> port & 1 == 1
+}
 
 /// The M by which the transaction writes the line.
 fn write_of(x: &Transaction, line: Line) -> Event
@@ -166,10 +175,28 @@ impl Home {
         self.shares.lines().has_unsnooped(place)
     }
 
-    /// A port may be snooped for the granted transaction. `place` is that of its line.
-    pub(crate) fn has_snoop(&self, place: Option<usize>, x: &Progress) -> bool
+    /// The port is one of these, and may be snooped for the transaction, which causes such snoops.
+    pub(crate) fn may_snoop_of(
+        &self,
+        ports: u32,
+        x: &Transaction,
+        kind: SnoopKind,
+        port: u8,
+    ) -> bool
+        ensures { (plan : Plan) (past : Trace) → HomeStands self.now plan past → port < 32
+            → result ≡ ((bit_at ports port == 1)
+            && is_kept plan.header past (snoop_for x.now kind port)) }
+    {
+        if !has_port(ports, port) {
+            return false;
+        }
+        self.may_snoop(x, kind, port)
+    }
+
+    /// A port of the set may be snooped for the granted transaction. `place` is that of its line.
+    pub(crate) fn has_snoop<F: Among>(&self, place: Option<usize>, x: &Progress, among: &F) -> bool
         ensures { (plan : Plan) (past : Trace) (p : ℕ) → IsServed self.now plan past p place x.now
-            → result ≡ has_snoop plan.header past x.now.transaction }
+            → result ≡ has_snoop_among (F.has among.now) plan.header past x.now.transaction }
     {
         if !self.may_still_snoop(place) {
             return false;
@@ -177,8 +204,9 @@ impl Home {
         let Some(kind) = snoop_of(&x.transaction) else {
             return false;
         };
+        let ports = among.may(x.transaction.addr);
         for port in 0..self.header.ports {
-            if self.may_snoop(&x.transaction, kind, port) {
+            if self.may_snoop_of(ports, &x.transaction, kind, port) {
                 return true;
             }
         }
@@ -225,8 +253,9 @@ impl Home {
 
     /// The next step of a granted read, which is snooped. `place` is that of its line.
     pub(crate) fn answer(&self, place: Option<usize>, x: &Progress) -> Option<Service>
-        ensures { (plan : Plan) (past : Trace) (p : ℕ) → IsServed self.now plan past p place x.now
-            → x.now.transaction.chan ≡ Reads → IsReply plan.header past x.now.transaction result }
+        ensures { (among : PortSets) (plan : Plan) (past : Trace) (p : ℕ)
+            → IsServed self.now plan past p place x.now → x.now.transaction.chan ≡ Reads
+            → IsReply among plan.header past x.now.transaction result }
     {
         if let Some(event) = self.passed(place, x) {
             return Some(Service::Passed(event));

@@ -7,6 +7,7 @@ ghost use Rattle.ace_model.specs.Transactions.{snoop_of};
 ghost use Rattle.ace_model.specs.Plans.{IsRight, Plan};
 ghost use Rattle.ace_model.specs.Trace.{Trace};
 ghost use Rattle.ace_engine.specs.Engines.{IsLegal};
+ghost use Rattle.ace_home.specs.Among.{PortSets};
 ghost use Rattle.ace_home.specs.Home.{HomeStands, IsListed, IsOf, IsServed, Tells};
 ghost use Rattle.ace_home.specs.Services.{IsLeastFor, IsReply};
 ghost use Rattle.ace_home.specs.Turns.{AreSnoops, IsDue, IsFirstOf, IsServing, due_by, sooner};
@@ -14,13 +15,14 @@ ghost use Rattle.ace_home.specs.declared.service.Service.{Service as Step};
 
 use crate::candidates::snoop_for;
 use crate::due::{Due, sooner};
+use crate::line_engine::LineEngine;
 use crate::service::Service;
 use ace_check::Shares;
 use ace_engine::{Burst, Engine};
 use ace_event::{Channel, Event, Header, Line};
 use ace_io::NoMemory;
 use ace_lineck::snoop_of;
-use ace_model::{PlanView, Transaction};
+use ace_model::{AllPorts, Among, PlanView, Transaction};
 use ace_portck::Progress;
 use std::alloc::Global;
 
@@ -58,8 +60,9 @@ impl Home {
 
     /// The next event of a granted transaction, which is snooped. `place` is that of its line.
     fn reply(&self, place: Option<usize>, x: &Progress) -> Option<Service>
-        ensures { (plan : Plan) (past : Trace) (p : ℕ) → IsServed self.now plan past p place x.now
-            → IsReply plan.header past x.now.transaction result }
+        ensures { (among : PortSets) (plan : Plan) (past : Trace) (p : ℕ)
+            → IsServed self.now plan past p place x.now
+            → IsReply among plan.header past x.now.transaction result }
     {
         match x.transaction.chan {
             Channel::Read => self.answer(place, x),
@@ -71,9 +74,9 @@ impl Home {
     }
 
     /// The step of least number for an outstanding transaction. What isn't granted waits for its G.
-    fn service(&self, x: &Progress) -> Option<Service>
+    fn service<F: Among>(&self, x: &Progress, among: &F) -> Option<Service>
         ensures { (plan : Plan) (past : Trace) (p : ℕ) → Tells self.now plan past p x.now
-            → IsLeastFor plan.header past x.now.transaction result }
+            → IsLeastFor (F.has among.now) plan.header past x.now.transaction result }
     {
         if !x.granted {
             return match self.grant(x) {
@@ -82,19 +85,20 @@ impl Home {
             };
         }
         let place = self.shares.lines().place(Some(x.transaction.addr));
-        if self.has_snoop(place, x) {
+        if self.has_snoop(place, x, among) {
             return Some(Service::Snoops);
         }
         self.reply(place, x)
     }
 
     /// The first of this and of the step for the outstanding transaction.
-    fn first_with(&self, first: Option<Due>, x: &Progress) -> Option<Due>
+    fn first_with<F: Among>(&self, first: Option<Due>, x: &Progress, among: &F) -> Option<Due>
         ensures { (plan : Plan) (past : Trace) (p : ℕ) → Tells self.now plan past p x.now
-            → (s : Option Step) × IsLeastFor plan.header past x.now.transaction s
+            → (s : Option Step)
+            × IsLeastFor (F.has among.now) plan.header past x.now.transaction s
             × (result ≡ sooner first (due_by x.now.transaction s)) }
     {
-        match self.service(x) {
+        match self.service(x, among) {
             None => first,
             Some(service) => {
                 let next = Due {
@@ -107,26 +111,27 @@ impl Home {
     }
 
     /// The first step for the outstanding transactions of the port on the channel.
-    fn due(&self, port: u8, chan: Channel) -> Option<Due>
+    fn due<F: Among>(&self, port: u8, chan: Channel, among: &F) -> Option<Due>
         ensures { (plan : Plan) (past : Trace) → HomeStands self.now plan past
-            → IsFirstOf plan.header past port (IsListed plan.header past port chan) result }
+            → IsFirstOf (F.has among.now) plan.header past port
+            (IsListed plan.header past port chan) result }
     {
         let queue = self.queue(port, chan);
         let mut first = None;
         for i in 0..queue.len() {
-            first = self.first_with(first, &queue[i]);
+            first = self.first_with(first, &queue[i], among);
         }
         first
     }
 
     /// The first step for the outstanding transactions of the port.
-    fn next(&self, port: u8) -> Option<Due>
+    fn next<F: Among>(&self, port: u8, among: &F) -> Option<Due>
         ensures { (plan : Plan) (past : Trace) → HomeStands self.now plan past
-            → IsFirstOf plan.header past port (IsOf plan.header past port) result }
+            → IsFirstOf (F.has among.now) plan.header past port (IsOf plan.header past port) result }
     {
         sooner(
-            self.due(port, Channel::Read),
-            self.due(port, Channel::Write),
+            self.due(port, Channel::Read, among),
+            self.due(port, Channel::Write, among),
         )
     }
 
@@ -149,33 +154,34 @@ impl Home {
         }
     }
 
-    /// Puts the AC of each port that may be snooped for the granted transaction.
-    fn put_snoops(&mut self, x: &Transaction, out: &mut Burst)
+    /// Puts the AC of each port of the set that may be snooped for the granted transaction.
+    fn put_snoops<F: Among>(&mut self, x: &Transaction, among: &F, out: &mut Burst)
         requires { out.old ≡ [] }
         ensures { (plan : Plan) (past : Trace) (kind : Snoops) → HomeStands self.old plan past
             → snoop_of x.now ≡ Some kind
-            → AreSnoops self.new plan past x.now kind plan.header.ports out.new }
+            → AreSnoops (F.has among.now) self.new plan past x.now kind plan.header.ports out.new }
     {
         let Some(kind) = snoop_of(x) else {
             return;
         };
+        let ports = among.may(x.addr);
         for port in 0..self.header.ports {
-            if self.may_snoop(x, kind, port) {
+            if self.may_snoop_of(ports, x, kind, port) {
                 self.put(snoop_for(x, kind, port), out);
             }
         }
     }
 
     /// Puts the burst of the step.
-    fn serve(&mut self, due: &Due, out: &mut Burst)
+    fn serve<F: Among>(&mut self, due: &Due, among: &F, out: &mut Burst)
         requires { out.old ≡ [] }
         ensures { (plan : Plan) (past : Trace) (p : ℕ) → HomeStands self.old plan past
-            → IsDue plan.header past p due.now
-            → IsServing self.new plan past p due.now out.new }
+            → IsDue (F.has among.now) plan.header past p due.now
+            → IsServing (F.has among.now) self.new plan past p due.now out.new }
     {
         let x = &due.transaction;
         let Some(first) = due.service.first() else {
-            self.put_snoops(x, out);
+            self.put_snoops(x, among, out);
             return;
         };
         self.put(first, out);
@@ -187,6 +193,39 @@ impl Home {
             };
             self.put(response, out);
         }
+    }
+}
+
+impl LineEngine for Home {
+    ghost use Rattle.std.specs.Prelude.{◌≡◌, ◌<◌, [], true, false, IsTrue};
+    ghost use Rattle.ace_runs.specs.Bursts.{onto};
+    ghost use Rattle.ace_engine.specs.Engines.{Home as OfLines, numbers_of};
+    ghost use Rattle.ace_home.specs.Among.{HasHolders, is_enabled_by_among, is_step_by_among};
+    ghost use Rattle.ace_home.specs.Home.{HomeStands};
+    ghost use Rattle.ace_home.specs.Turns.{IsLeastStepAmong};
+
+    /// Puts the step of least number that is enabled for the port where only ports of the sets are
+    /// snooped, and of those of one number that for the oldest transaction. A transaction that is
+    /// snooped has all its snoops at once.
+    fn turn_among<F: Among>(&mut self, port: u8, among: &F, out: &mut Burst) -> bool
+        requires stands { (plan : Plan) × (past : Trace) × HomeStands self.old plan past
+            × (port < plan.header.ports) × HasHolders (F.has among.now) plan.header past }
+        requires out { out.old ≡ [] }
+        ensures step { IsTrue result → (plan : Plan) (past : Trace) → HomeStands self.old plan past
+            → is_step_by_among (F.has among.now) (numbers_of OfLines) plan past port out.new ≡ true }
+        ensures stands { IsTrue result → (plan : Plan) (past : Trace)
+            → HomeStands self.old plan past → HomeStands self.new plan (onto out.new past) }
+        ensures none { result ≡ false → (plan : Plan) (past : Trace) → HomeStands self.old plan past
+            → is_enabled_by_among (F.has among.now) (numbers_of OfLines) plan past port ≡ false }
+        ensures unchanged { result ≡ false → (self.new ≡ self.old) × (out.new ≡ []) }
+        ensures least { IsTrue result → (plan : Plan) (past : Trace) → HomeStands self.old plan past
+            → IsLeastStepAmong (F.has among.now) plan past port out.new }
+    {
+        let Some(due) = self.next(port, among) else {
+            return false;
+        };
+        self.serve(&due, among, out);
+        true
     }
 }
 
@@ -225,11 +264,7 @@ impl Engine for Home {
         ensures least { IsTrue result → (plan : Plan) (past : Trace) → HomeStands self.old plan past
             → IsLeastStep plan past port out.new }
     {
-        let Some(due) = self.next(port) else {
-            return false;
-        };
-        self.serve(&due, out);
-        true
+        self.turn_among(port, &AllPorts, out)
     }
 
     fn hear(&mut self, event: &Event) {

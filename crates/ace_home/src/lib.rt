@@ -5,7 +5,10 @@
 mod candidates;
 mod due;
 mod home;
+pub mod laws;
+mod line_engine;
 mod queues;
 mod service;
 
 pub use home::Home;
+pub use line_engine::LineEngine;

@@ -1,8 +1,9 @@
-use Rattle.std.proofs.Common.{◌≡◌, ◌∙◌, true, false, sym, subst}
+use Rattle.std.proofs.Common.{◌≡◌, ◌∙◌, true, false, sym, subst, refl}
 use Rattle.std.proofs.lemmas.Bool.{eq-eqb}
 use Rattle.ace_runs.specs.Bursts.{onto}
 use Rattle.ace_runs.specs.Steps.{is_enabled_by, is_step_by}
 use Rattle.ace_engine.specs.Engines.{EngineKind, Home, Master, Order, Update, numbers_of}
+use Rattle.ace_home.proofs.Among.{step-among-by, step-stays}
 use Rattle.ace_fabric.proofs.Given.{none-of-kind, none-of-master}
 use Rattle.ace_fabric.proofs.Moves.{heard-part, other-masters, own-at}
 use Rattle.ace_fabric.proofs.Taken.{step-by-is, steps-after}
@@ -24,7 +25,7 @@ returns-then-not-turn-clause-none g c = λ _ plan past r.
     (c.turn.ensures.none c.if-not-turn.true plan past (r.masters_are.stand own _ at))
 
 pub returns-clause-moved : goal.returns-clause-moved
-returns-clause-moved g c = λ _ plan past r.
+returns-clause-moved g c = λ _ among plan past r.
     let run = c.requires.run in
     let port = c.args.port in
     let own = c.from-own.result in
@@ -36,7 +37,7 @@ returns-clause-moved g c = λ _ plan past r.
     let by : is_step_by (numbers_of Master) plan past port out ≡ true =
     subst (λ (k : EngineKind). is_step_by (numbers_of k) plan past port out ≡ true) r.masters_are.kind_is (c.turn.ensures.step c.if-not-turn.false plan past stood) in
     let step = step-by-is (numbers_of Master) plan past port out by in (
-      step,
+      step-among-by among plan past port out (numbers_of Master) (step-stays among plan past port out (numbers_of Master) refl by),
       record {
         legal = legal;
         steps = steps-after plan past port out r.steps step;

@@ -1,7 +1,8 @@
-use Rattle.std.proofs.Common.{◌≡◌, arith, true, false, subst}
+use Rattle.std.proofs.Common.{◌≡◌, arith, true, false, subst, refl}
 use Rattle.ace_runs.specs.Bursts.{onto}
 use Rattle.ace_runs.specs.Steps.{is_enabled_by, is_step_by}
 use Rattle.ace_engine.specs.Engines.{EngineKind, Home, Master, Order, Update, numbers_of}
+use Rattle.ace_home.proofs.Among.{step-among-by, step-stays}
 use Rattle.ace_fabric.proofs.Given.{none-of-kind}
 use Rattle.ace_fabric.proofs.Moves.{all-masters, heard-part, moved-part}
 use Rattle.ace_fabric.proofs.Taken.{step-by-is, steps-after}
@@ -13,7 +14,7 @@ returns-then-not-turn-clause-none g c = λ _ plan past r.
     (c.turn.ensures.none c.if-not-turn.true plan past r.order_is.stands)
 
 pub returns-clause-moved : goal.returns-clause-moved
-returns-clause-moved g c = λ _ plan past r.
+returns-clause-moved g c = λ _ among plan past r.
     let port = c.args.port in
     let out = c.turn.new.out in
     let stood = r.order_is.stands in
@@ -22,7 +23,7 @@ returns-clause-moved g c = λ _ plan past r.
     let by : is_step_by (numbers_of Order) plan past port out ≡ true =
     subst (λ (k : EngineKind). is_step_by (numbers_of k) plan past port out ≡ true) r.order_is.kind_is (c.turn.ensures.step c.if-not-turn.false plan past stood) in
     let step = step-by-is (numbers_of Order) plan past port out by in (
-      step,
+      step-among-by among plan past port out (numbers_of Order) (step-stays among plan past port out (numbers_of Order) refl by),
       record {
         legal = legal;
         steps = steps-after plan past port out r.steps step;

@@ -8,6 +8,6 @@ use Rattle.ace_home.proofs.home.Home.due.Given as goal
 
 -- the first step for the transactions so far
 abbrev pub invariant-loop-i : goal.invariant-loop-i
-invariant-loop-i l =
+invariant-loop-i g l =
     (plan : Plan) (past : Trace) → HomeStands l.fn.self plan past
-    → IsFirstOf plan.header past l.fn.port (λ y. (k : ℕ) × (k < l.i) × (slice_get (pending_of plan.header past l.fn.port l.fn.chan) k ≡ Some y)) l.first
+    → IsFirstOf (g.F.Among.has l.fn.among) plan.header past l.fn.port (λ y. (k : ℕ) × (k < l.i) × (slice_get (pending_of plan.header past l.fn.port l.fn.chan) k ≡ Some y)) l.first

@@ -4,8 +4,8 @@ use Rattle.ace_home.proofs.Firsts.{sooner-none}
 use Rattle.ace_home.proofs.home.Home.first_with.Goals as goal
 
 pub returns-in-None : goal.returns-in-None
-returns-in-None c = λ plan past p t. (None, subst (IsLeastFor plan.header past c.args.x.now.transaction) c.in-None.is (c.service.ensures plan past p t), sym (sooner-none c.args.first))
+returns-in-None g c = λ plan past p t. (None, subst (IsLeastFor (g.F.Among.has c.args.among.now) plan.header past c.args.x.now.transaction) c.in-None.is (c.service.ensures plan past p t), sym (sooner-none c.args.first))
 
 pub returns-in-Some : goal.returns-in-Some
-returns-in-Some c = λ plan past p t.
-    (Some c.in-Some.service, subst (IsLeastFor plan.header past c.args.x.now.transaction) c.in-Some.is (c.service.ensures plan past p t), c.sooner.ensures)
+returns-in-Some g c = λ plan past p t.
+    (Some c.in-Some.service, subst (IsLeastFor (g.F.Among.has c.args.among.now) plan.header past c.args.x.now.transaction) c.in-Some.is (c.service.ensures plan past p t), c.sooner.ensures)

@@ -9,10 +9,11 @@ use Rattle.ace_home.proofs.Kept.{of-each-channel}
 use Rattle.ace_home.proofs.home.Home.next.Goals as goal
 
 pub returns : goal.returns
-returns c = λ plan past stands.
+returns g c = λ plan past stands.
     let h = plan.header in
     let p = c.args.port in
-    subst (IsFirstOf h past p (IsOf h past p)) (sym c.sooner.ensures)
-    (first-sooner h past p (IsListed h past p Read) (IsListed h past p Write) (IsOf h past p) c.due.result c.due-2.result (c.due.ensures plan past stands) (c.due-2.ensures plan past stands)
+    let among = g.F.Among.has c.args.among.now in
+    subst (IsFirstOf among h past p (IsOf h past p)) (sym c.sooner.ensures)
+    (first-sooner among h past p (IsListed h past p Read) (IsListed h past p Write) (IsOf h past p) c.due.result c.due-2.result (c.due.ensures plan past stands) (c.due-2.ensures plan past stands)
     (λ y o. of-each-channel (λ (d : Channel). (k : ℕ) → slice_get (pending_of h past p d) k ≡ Some y → IsListed h past p Read y ⊎ IsListed h past p Write y) (λ k at. inl (k, at))
     (λ k at. inr (k, at)) y.chan o.0 o.1))

@@ -1,27 +1,7 @@
-use Rattle.std.proofs.Common.{subst}
-use Rattle.ace_home.specs.Home.{IsOf}
-use Rattle.ace_home.specs.Turns.{IsFirst, IsFirstOf}
-use Rattle.ace_home.proofs.Serving.{least-step, none-enabled, of-home}
+use Rattle.std.proofs.Common.{refl}
 use Rattle.ace_home.proofs.home.HomeEngine.turn.Goals as goal
 
-pub returns-clause-step : goal.returns-clause-step
-returns-clause-step c = λ _ plan past s.
-    let p = c.args.port in
-    let first : IsFirst plan.header past p (IsOf plan.header past p) c.in-Some.due = subst (IsFirstOf plan.header past p (IsOf plan.header past p)) c.in-Some.is (c.next.ensures plan past s) in
-    of-home plan past p c.serve.new.out c.in-Some.due.service (c.serve.ensures plan past p s first.due).step
-
-pub returns-clause-stands : goal.returns-clause-stands
-returns-clause-stands c = λ _ plan past s.
-    let p = c.args.port in
-    let first : IsFirst plan.header past p (IsOf plan.header past p) c.in-Some.due = subst (IsFirstOf plan.header past p (IsOf plan.header past p)) c.in-Some.is (c.next.ensures plan past s) in
-    (c.serve.ensures plan past p s first.due).stands
-
-pub returns-clause-least : goal.returns-clause-least
-returns-clause-least c = λ _ plan past s.
-    let p = c.args.port in
-    let first : IsFirst plan.header past p (IsOf plan.header past p) c.in-Some.due = subst (IsFirstOf plan.header past p (IsOf plan.header past p)) c.in-Some.is (c.next.ensures plan past s) in
-    least-step plan past p c.serve.new.self c.in-Some.due c.serve.new.out first (c.serve.ensures plan past p s first.due)
-
-pub returns-in_default-clause-none : goal.returns-in_default-clause-none
-returns-in_default-clause-none c = λ _ plan past s.
-    none-enabled plan past c.args.port (subst (IsFirstOf plan.header past c.args.port (IsOf plan.header past c.args.port)) c.in_default.is (c.next.ensures plan past s))
+pub turn_among-requires-clause-stands : goal.turn_among-requires-clause-stands
+turn_among-requires-clause-stands c =
+    let s = c.requires.stands in
+    (s.0, s.1, s.2, s.3, λ l p ace held. refl)
