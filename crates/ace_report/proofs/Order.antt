@@ -36,7 +36,7 @@ at_number a b =
     ]
 
 -- the line is one of the list
-abbrev is_one : ℕ → List ℕ → Bool
+abbrev pub is_one : ℕ → List ℕ → Bool
 is_one l ls = list_any (nat_eq l) ls
 
 put-has : (q l : ℕ) (ms : List ℕ) → is_one q (put_in_order l ms) ≡ (nat_eq q l || is_one q ms)
@@ -52,7 +52,7 @@ put-has q l (m ∷ ms) =
     swap true false c = refl
     swap false b c = refl
 
-order-has : (q : ℕ) (ls : List ℕ) → is_one q (in_order ls) ≡ is_one q ls
+pub order-has : (q : ℕ) (ls : List ℕ) → is_one q (in_order ls) ≡ is_one q ls
 order-has q [] = refl
 order-has q (l ∷ ls) = put-has q l (in_order ls) ∙ ap (λ b. nat_eq q l || b) (order-has q ls)
 
@@ -86,7 +86,7 @@ put-sorted l (m ∷ ms) s new =
     ]
 
 -- the known lines are those of the list
-known-listed : (past : Trace) (q : ℕ) → is_one q (known_lines past) ≡ is_known past q
+pub known-listed : (past : Trace) (q : ℕ) → is_one q (known_lines past) ≡ is_known past q
 known-listed [] q = refl
 known-listed (e ∷ past) q = by (known-listed past q) (issued (length past) e)
   where

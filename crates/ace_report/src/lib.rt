@@ -11,4 +11,6 @@ mod tally;
 mod text;
 
 pub use lines::told_line;
+pub use put::{give_over, make_room};
 pub use report::Report;
+pub use text::push_count;

@@ -14,7 +14,7 @@ use ace_writer::{TEXT_ROOM, TextBuf};
 use std::collections::btree_map::Iter;
 
 /// Gives what stands on the page, where it has more bytes than these.
-fn give_over<K: Sink>(sink: &mut K, page: &mut TextBuf, most: usize) -> Result<(), Failed>
+pub fn give_over<K: Sink>(sink: &mut K, page: &mut TextBuf, most: usize) -> Result<(), Failed>
     ensures whole { OnOk result (Puts (K.held sink.old) page.old [] (K.held sink.new) page.new []) }
     ensures part { OnErr result (PutsPart (K.held sink.old) page.old [] (K.held sink.new)) }
     ensures room { OnOk result (length page.new ≤ most) }
@@ -31,7 +31,7 @@ fn give_over<K: Sink>(sink: &mut K, page: &mut TextBuf, most: usize) -> Result<(
 }
 
 /// Makes room on the page for one more line.
-fn make_room<K: Sink>(sink: &mut K, page: &mut TextBuf) -> Result<(), Failed>
+pub fn make_room<K: Sink>(sink: &mut K, page: &mut TextBuf) -> Result<(), Failed>
     ensures whole { OnOk result (Puts (K.held sink.old) page.old [] (K.held sink.new) page.new []) }
     ensures part { OnErr result (PutsPart (K.held sink.old) page.old [] (K.held sink.new)) }
     ensures room { OnOk result (length page.new ≤ 3796) }

@@ -11,7 +11,7 @@ use itoa::Buffer;
 pub(crate) const LINE_LIMIT: usize = 300;
 
 /// A word and a number.
-fn push_count(page: &mut TextBuf, word: &[u8], count: u64)
+pub fn push_count(page: &mut TextBuf, word: &[u8], count: u64)
     requires { length page.old + length word.now + 40 ≤ 4096 }
     ensures value { page.new ≡ page.old ++ word.now ++ decimal count }
     ensures len { length page.new ≤ length page.old + length word.now + 40 }

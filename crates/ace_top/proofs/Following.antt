@@ -1,5 +1,5 @@
 -- One more event is followed.
-use Rattle.std.proofs.Common.{◌≡◌, ◌<◌, ◌-◌, ◌^◌, true, false, List, ◌∷◌, Option, Some, None, Result, Ok, Err, IfOk, IfNone, IfSome, length, refl}
+use Rattle.std.proofs.Common.{◌≡◌, ◌<◌, ◌-◌, ◌^◌, true, false, List, ◌∷◌, Option, Some, None, Result, Ok, Err, IfOk, IfNone, IfSome, length, refl, arith}
 use Rattle.std.specs.Prelude.{is_some}
 use Rattle.ace_event.specs.declared.event.Event.{Event}
 use Rattle.ace_event.specs.declared.header.Header.{Header}
@@ -10,8 +10,8 @@ use Rattle.ace_check.specs.declared.checker.CheckErr.{CheckErr}
 use Rattle.ace_check.specs.declared.checker.CheckErr.TheVariants as lacks
 use Rattle.ace_check.specs.declared.checker.Step.{Step}
 use Rattle.ace_check.specs.declared.checker.Step.TheVariants.{Fine, Broken}
-use Rattle.ace_report.specs.Stands as reporting
-use Rattle.ace_report.specs.declared.report.Report.{Report}
+use Rattle.ace_account.specs.Listeners as listening
+use Rattle.ace_account.specs.declared.listener.Listener.{Listener}
 use Rattle.ace_top.specs.declared.answer.Answer.{Answer}
 use Rattle.ace_top.specs.declared.follow.Follower.{Follower}
 use Rattle.ace_top.specs.Follow.{Follows, HasTaken, fed_answer}
@@ -45,33 +45,33 @@ fed_stop (Ok (Broken index rule)) = tt
 fed_stop (Err lacks.NoMemory) = tt
 fed_stop (Err lacks.TooManyLines) = tt
 
--- the checker and the report stand for one event more
-pub both_follow : (stop : Option Answer) (c : Checker) (r : Report) (h : Header) (past : List Event) (e : Event) → IsAccepted h past
-    → IfNone stop ((least_broken h past e ≡ None) × (check.goes_over past e ≡ false)) → IfNone stop (check.Stands c h (e ∷ past) None) → IfNone stop (reporting.Stands r h (e ∷ past))
-    → IfNone stop (Follows (record { checker = c; report = Some r; stop = stop }) h (e ∷ past))
-both_follow None c r h past e accepted fine stands reports = record { checker = stands; report = reports; accepted = (accepted, fine.0); goes_on = refl }
-both_follow (Some answer) c r h past e accepted fine stands reports = tt
+-- the checker stands for one event more, and what hears it has heard it
+pub both_follow : (stop : Option Answer) (c : Checker) (r : Listener) (h : Header) (past : List Event) (e : Event) → IsAccepted h past
+    → IfNone stop ((least_broken h past e ≡ None) × (check.goes_over past e ≡ false)) → IfNone stop (check.Stands c h (e ∷ past) None) → IfNone stop (listening.Stands r h (e ∷ past))
+    → IfNone stop (Follows (record { checker = c; listener = Some r; stop = stop }) h (e ∷ past))
+both_follow None c r h past e accepted fine stands heard = record { checker = stands; listener = heard; accepted = (accepted, fine.0); goes_on = refl }
+both_follow (Some answer) c r h past e accepted fine stands heard = tt
 
 -- and the checker alone
-one_follows : (stop : Option Answer) (c : Checker) (r : Option Report) (h : Header) (past : List Event) (e : Event) → r ≡ None → IsAccepted h past
+one_follows : (stop : Option Answer) (c : Checker) (r : Option Listener) (h : Header) (past : List Event) (e : Event) → r ≡ None → IsAccepted h past
     → IfNone stop ((least_broken h past e ≡ None) × (check.goes_over past e ≡ false)) → IfNone stop (check.Stands c h (e ∷ past) None)
-    → IfNone stop (Follows (record { checker = c; report = r; stop = stop }) h (e ∷ past))
-one_follows None c r h past e none accepted fine stands = record { checker = stands; report = rw none tt; accepted = (accepted, fine.0); goes_on = refl }
+    → IfNone stop (Follows (record { checker = c; listener = r; stop = stop }) h (e ∷ past))
+one_follows None c r h past e none accepted fine stands = record { checker = stands; listener = rw none tt; accepted = (accepted, fine.0); goes_on = refl }
 one_follows (Some answer) c r h past e none accepted fine stands = tt
 
 pub none_is : {A : Type 0} (o : Option A) → is_some o ≡ false → o ≡ None
 none_is None none = refl
 none_is (Some x) none = absurd cc
 
-pub alone_taken : (f : Follower) (e : Event) (c : Checker) (stop : Option Answer) → f.report ≡ None
+pub alone_taken : (f : Follower) (e : Event) (c : Checker) (stop : Option Answer) → f.listener ≡ None
     → ((h : Header) (past : List Event) → check.Stands f.checker h past None → IfNone stop ((least_broken h past e ≡ None) × (check.goes_over past e ≡ false)))
     → ((h : Header) (past : List Event) → check.Stands f.checker h past None → length past < 2 ^ 64 - 2 → IfNone stop (check.Stands c h (e ∷ past) None))
     → ((h : Header) (past : List Event) → check.Stands f.checker h past None → IfSome stop (StopsAt h past e)) → IfSome stop IsStop
-    → HasTaken f e (record { checker = c; report = f.report; stop = stop })
+    → HasTaken f e (record { checker = c; listener = f.listener; stop = stop })
 alone_taken f e c stop none fine stands stops is_stop = record {
   fine = λ h past s. fine h past s.checker;
-  follows = λ h past s few. one_follows stop c f.report h past e none s.accepted (fine h past s.checker) (stands h past s.checker few);
+  follows = λ h past s few. one_follows stop c f.listener h past e none s.accepted (fine h past s.checker) (stands h past s.checker (omega (arith, few)));
   stops = λ h past s. stops h past s.checker;
   stop = is_stop;
-  same_reports = refl;
+  same_account = refl;
 }

@@ -11,7 +11,7 @@ use Rattle.ace_convert.proofs.OneConversion as convert
 use Rattle.ace_top.specs.declared.answer.Answer.{Answer}
 use Rattle.ace_top.specs.declared.answer.Answer.TheVariants.{ReadFault, NoMemory, Shown}
 use Rattle.ace_top.specs.declared.words.Command.{Command}
-use Rattle.ace_top.specs.declared.words.Command.TheVariants.{Check, Report, Convert, Run, Gen, Trial}
+use Rattle.ace_top.specs.declared.words.Command.TheVariants.{Check, Account, Convert, Run, Gen, Trial}
 use Rattle.ace_top.specs.Answer.{IsAnswer, FitsAnswer, IsDue, IsSettled}
 use Rattle.ace_top.specs.ErrorAnswer.{end_answer}
 use Rattle.ace_top.specs.Texts.{status_of}
@@ -43,7 +43,7 @@ fault_written conversion bytes left last due text whole can d (end, is, c) (fail
 fault_given : (command : Command) (bytes : List ℕ) (left last : Option (List ℕ)) (due : Answer) (text whole : List ℕ) → IsSettled command bytes → IsDue due → FitsAnswer command ReadFault text
     → IsAnswer command (Some bytes) left ReadFault text → IsAnswer command (Some bytes) last due whole → BeginsWith whole text
 fault_given Check bytes left last due text whole settled d f a b = nothing_given text whole f
-fault_given Report bytes left last due text whole settled d f a b = nothing_given text whole f
+fault_given (Account account) bytes left last due text whole settled d f a b = nothing_given text whole f
 fault_given (Convert conversion) bytes left last due text whole settled d f a b = fault_written conversion bytes left last due text whole settled d b a
 fault_given (Gen number) bytes left last due text whole settled d f a b = absurd a
 fault_given Run bytes left last due text whole settled d f a b = nothing_given text whole f
@@ -53,7 +53,7 @@ fault_given (Trial number) bytes left last due text whole settled d f a b = noth
 no_memory_given : (command : Command) (bytes : List ℕ) (left : Option (List ℕ)) (text whole : List ℕ) → FitsAnswer command NoMemory text
     → IsAnswer command (Some bytes) left NoMemory text → BeginsWith whole text
 no_memory_given Check bytes left text whole f a = nothing_given text whole f
-no_memory_given Report bytes left text whole f a = nothing_given text whole f
+no_memory_given (Account account) bytes left text whole f a = nothing_given text whole f
 no_memory_given (Convert conversion) bytes left text whole f a = nothing_given text whole f
 no_memory_given (Gen number) bytes left text whole f a = nothing_given text whole a
 no_memory_given Run bytes left text whole f a = nothing_given text whole f

@@ -1,6 +1,5 @@
 -- Events were read and followed, until one ended the check.
 use Rattle.std.proofs.Common.{◌≡◌, ◌<◌, ◌≤◌, ◌+◌, ◌-◌, ◌++◌, ℕ, false, List, [], ◌∷◌, Option, Some, None, IfNone, IfSome, length, reverse, refl, sym, ap, subst, ◌∙◌, append_assoc, append-nil, arith}
-use Rattle.std.specs.Prelude.{is_some}
 use Rattle.std.specs.List.{AllByRecursion}
 use Rattle.std.specs.Io.KnownBytes.{Consumes}
 use Rattle.std.proofs.KnownBytes.{Consumes-trans}
@@ -16,7 +15,7 @@ use Rattle.ace_model.specs.Accepted.{least_broken}
 use Rattle.ace_check.specs.Promises.{goes_over}
 use Rattle.ace_top.specs.declared.answer.Answer.{Answer}
 use Rattle.ace_top.specs.declared.follow.Follower.{Follower}
-use Rattle.ace_top.specs.Follow.{Follows, HasCome, HasComeTo, HasTaken, TakesOn}
+use Rattle.ace_top.specs.Follow.{Follows, HasCome, HasComeTo, HasTaken, TakesOn, asked_of}
 use Rattle.ace_top.specs.Progress.{IsStop, StandsAt, StopsAt}
 use Rattle.ace_top.proofs.ProgressLemmas.{stands_further, stop_verdict}
 
@@ -98,14 +97,14 @@ pub all_front : (version count : ℕ) (f f' : Follower) (left left' : Option (Li
     → TakesFront left left'
 all_front version count f f' left left' handed = record { taken = _; consumed = handed.text }
 
--- it keeps a report where it kept one
-reports_all : (events : List Event) (f f' : Follower) → HasTakenAll TakesOn events f f' → is_some f'.report ≡ is_some f.report
-reports_all [] f f' taken = ap (λ (k : Follower). is_some k.report) taken
-reports_all (event ∷ events) f f' (between, before, (on, last)) = last.same_reports ∙ reports_all events f between before
+-- the same account is asked for
+accounts_all : (events : List Event) (f f' : Follower) → HasTakenAll TakesOn events f f' → asked_of f' ≡ asked_of f
+accounts_all [] f f' taken = ap asked_of taken
+accounts_all (event ∷ events) f f' (between, before, (on, last)) = last.same_account ∙ accounts_all events f between before
 
-pub all_reports : (version count : ℕ) (f f' : Follower) (left left' : Option (List ℕ)) → HandsAllOver version TakesOn count f f' left left'
-    → is_some f'.report ≡ is_some f.report
-all_reports version count f f' left left' handed = reports_all handed.events f f' handed.taken
+pub all_accounts : (version count : ℕ) (f f' : Follower) (left left' : Option (List ℕ)) → HandsAllOver version TakesOn count f f' left left'
+    → asked_of f' ≡ asked_of f
+all_accounts version count f f' left left' handed = accounts_all handed.events f f' handed.taken
 
 -- an answer that ended the check is that of an event
 stops_all : (events : List Event) (f f' : Follower) → HasTakenAll TakesOn events f f' → IfSome f.stop IsStop → IfSome f'.stop IsStop

@@ -5,6 +5,7 @@ use Rattle.std.specs.String.{string_bytes}
 use Rattle.std.specs.declared.alloc.Global.{Global}
 use Rattle.std.proofs.lemmas.Fmt.{decimal_by_steps}
 use Rattle.clap.proofs.WalkLemmas.{list_any-map}
+use Rattle.ace_account.specs.declared.listener.Account.TheVariants.{Report, Order}
 use Rattle.ace_convert.specs.declared.conversion.Conversion.TheVariants.{Show, Migrate, Pack, Unpack}
 use Rattle.ace_top.specs.Parse.{any_hyphen, starts_with_hyphen}
 use Rattle.ace_top.specs.Words.{IsCommand, IsNumbered, IsWord}
@@ -31,7 +32,8 @@ numbered_clear words text n e (word, is, (small, number)) =
 
 command_clear : (words : List (String Global)) → IsCommand words → any_hyphen words ≡ false
 command_clear words (inl (inl (inl e))) = word_clear words _ refl e
-command_clear words (inl (inl (inr (inl e)))) = word_clear words _ refl e
+command_clear words (inl (inl (inr (inl (Report, e))))) = word_clear words _ refl e
+command_clear words (inl (inl (inr (inl (Order, e))))) = word_clear words _ refl e
 command_clear words (inl (inl (inr (inr (Show, e))))) = word_clear words _ refl e
 command_clear words (inl (inl (inr (inr (Migrate, e))))) = word_clear words _ refl e
 command_clear words (inl (inl (inr (inr (Pack, e))))) = word_clear words _ refl e

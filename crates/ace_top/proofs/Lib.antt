@@ -1,4 +1,5 @@
 pub mod AcceptedEnd
+pub mod AccountLemmas
 pub mod ErrorLemmas
 pub mod Followed
 pub mod Following
@@ -15,7 +16,6 @@ pub mod ParseLemmas
 pub mod Parts
 pub mod ProgressLemmas
 pub mod ReaderEnds
-pub mod ReportLemmas
 pub mod RunLemmas
 pub mod RunTexts
 pub mod Sound

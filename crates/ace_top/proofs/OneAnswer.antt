@@ -7,7 +7,9 @@ use Rattle.ace_grammar.specs.Reading.{Ending, Ends, Whole, Full, Bad, Reads, Has
 use Rattle.ace_grammar.proofs.Readings.EveryReading.{some_reading}
 use Rattle.ace_grammar.proofs.Readings.Fronts.{front_is_read, front_is_good}
 use Rattle.ace_grammar.proofs.Readings.OneReading.{one_reading, no_bad_header, one_bad_header}
-use Rattle.ace_report.specs.Report.{report_text}
+use Rattle.ace_account.proofs.SomeAccount.{some_account}
+use Rattle.ace_account.specs.declared.listener.Account.{Account}
+use Rattle.ace_account.specs.declared.listener.Account.TheVariants as accounts
 use Rattle.ace_model.specs.Accepted.{least_broken}
 use Rattle.ace_model.specs.Trace.{newer}
 use Rattle.ace_check.specs.Promises.{goes_over}
@@ -23,12 +25,15 @@ use Rattle.ace_convert.proofs.OneConversion.{some_conversion, one_conversion}
 use Rattle.ace_top.specs.ErrorAnswer.{end_answer}
 use Rattle.ace_top.specs.Written.{IsWritten}
 use Rattle.ace_top.specs.declared.words.Command.{Command}
-use Rattle.ace_top.specs.declared.words.Command.TheVariants.{Check, Report, Convert, Run, Gen, Trial}
+use Rattle.ace_top.specs.declared.words.Command.TheVariants.{Check, Convert, Run, Gen, Trial}
+use Rattle.ace_top.specs.declared.words.Command.TheVariants as command
 use Rattle.ace_top.specs.Answer.{CanBeInput, IsAnswer, FitsAnswer, IsDue, IsSettled}
 use Rattle.ace_top.specs.Generate.{IsGenerated, script_of}
-use Rattle.ace_top.specs.Report.{IsReported}
+use Rattle.ace_top.specs.Report.{AreAccepted, IsReported}
 use Rattle.ace_top.specs.Texts.{out_text_of}
 use Rattle.ace_top.proofs.OneScript.{one_unread, some_ran, some_tried}
+use Rattle.ace_top.proofs.Sound.{all_in_fields}
+use Rattle.ace_top.proofs.Stops.{no_stop_accepted}
 use Rattle.ace_top.specs.Verdict.{IsVerdict, BeginsStopped, Stop, Breaks, GoesOver, stop_of, first_stop, first_stop_after}
 
 -- ---- verdicts
@@ -133,60 +138,70 @@ some_verdict bytes =
           (verdict_of (first_stop header events) end (length events), v.0, v.1)
     ]
 
--- ---- reports
+-- ---- accounts
 
 -- the verdict on the same bytes
 abbrev pub verdict_told : Answer → ℕ → Answer
 verdict_told Reported count = Accepted count
 verdict_told answer count = answer
 
-told_verdict : (bytes : List ℕ) (answer : Answer) (text : List ℕ) → IsDue answer → IsReported bytes answer text
+told_verdict : (account : Account) (bytes : List ℕ) (answer : Answer) (text : List ℕ) → IsDue answer → IsReported account bytes answer text
     → (count : ℕ) × IsDue (verdict_told answer count) × IsVerdict bytes (verdict_told answer count)
-told_verdict bytes Reported text d (header, events, reads, none, is) = (length events, tt, (header, events, reads, none, refl))
-told_verdict bytes (Accepted count) text d r = absurd r
-told_verdict bytes (Refused index rule) text d r = (0, d, r.0)
-told_verdict bytes (Malformed line reason) text d r = (0, d, r.0)
-told_verdict bytes ReadFault text d r = absurd d
-told_verdict bytes NoMemory text d r = absurd d
-told_verdict bytes LimitEvents text d r = (0, d, r.0)
-told_verdict bytes LimitLines text d r = (0, d, r.0)
-told_verdict bytes answer text d r = absurd r.0
+told_verdict account bytes Reported text d (header, events, (reads, none), is) = (length events, tt, (header, events, reads, none, refl))
+told_verdict account bytes (Accepted count) text d r = absurd r
+told_verdict account bytes (Refused index rule) text d r = (0, d, r.0)
+told_verdict account bytes (Malformed line reason) text d r = (0, d, r.0)
+told_verdict account bytes ReadFault text d r = absurd d
+told_verdict account bytes NoMemory text d r = absurd d
+told_verdict account bytes LimitEvents text d r = (0, d, r.0)
+told_verdict account bytes LimitLines text d r = (0, d, r.0)
+told_verdict account bytes answer text d r = absurd r.0
 
 abbrev pub told_of : Answer → Answer
 told_of (Accepted count) = Reported
 told_of answer = answer
 
-told_back : (bytes : List ℕ) (answer : Answer) (text : List ℕ) (count : ℕ) → IsReported bytes answer text → told_of (verdict_told answer count) ≡ answer
-told_back bytes Reported text count r = refl
-told_back bytes (Accepted n) text count r = absurd r
-told_back bytes answer text count r = refl
+told_back : (account : Account) (bytes : List ℕ) (answer : Answer) (text : List ℕ) (count : ℕ) → IsReported account bytes answer text → told_of (verdict_told answer count) ≡ answer
+told_back account bytes Reported text count r = refl
+told_back account bytes (Accepted n) text count r = absurd r
+told_back account bytes answer text count r = refl
 
--- the answer has one text
-one_report : (bytes : List ℕ) (answer : Answer) (text more : List ℕ) → IsReported bytes answer text → IsReported bytes answer more → text ≡ more
-one_report bytes Reported text more (h, events, reads, none, is) (header, es, r, nothing, was) =
+-- the answers are one
+pub one_told : (account : Account) (bytes : List ℕ) (answer other : Answer) (text more : List ℕ) → IsDue answer → IsDue other
+    → IsReported account bytes answer text → IsReported account bytes other more → answer ≡ other
+one_told account bytes answer other text more d o r s =
+    let v = told_verdict account bytes answer text d r in
+    let w = told_verdict account bytes other more o s in
+    sym (told_back account bytes answer text v.0 r) ∙ ap told_of (one_verdict bytes (verdict_told answer v.0) (verdict_told other w.0) v.1 w.1 v.2 w.2) ∙ told_back account bytes other more w.0 s
+
+-- a report has one text, and so has a refusal of any account
+one_text : (account : Account) (bytes : List ℕ) (answer : Answer) (text more : List ℕ) → IsSettled (command.Account account) bytes
+    → IsReported account bytes answer text → IsReported account bytes answer more → text ≡ more
+one_text accounts.Report bytes Reported text more settled (h, events, (reads, none), is) (header, es, (r, nothing), was) =
     let one = one_reading bytes h header events es Whole Whole reads r in
     is ∙ (rw one.0 (rw one.1 (sym was)))
-one_report bytes (Accepted n) text more r s = absurd r
-one_report bytes answer text more r s = r.1 ∙ sym s.1
+one_text accounts.Order bytes Reported text more settled (h, events, accepted, is) s = absurd (settled h events accepted)
+one_text account bytes (Accepted n) text more settled r s = absurd r
+one_text account bytes answer text more settled r s = r.1 ∙ sym s.1
 
-one_told : (bytes : List ℕ) (answer other : Answer) (text more : List ℕ) → IsDue answer → IsDue other → IsReported bytes answer text → IsReported bytes other more → (answer ≡ other) × (text ≡ more)
-one_told bytes answer other text more d o r s =
-    let v = told_verdict bytes answer text d r in
-    let w = told_verdict bytes other more o s in
-    let same : answer ≡ other =
-    sym (told_back bytes answer text v.0 r) ∙ ap told_of (one_verdict bytes (verdict_told answer v.0) (verdict_told other w.0) v.1 w.1 v.2 w.2) ∙ told_back bytes other more w.0 s in
-    (same, one_report bytes answer text more r (subst (λ a. IsReported bytes a more) (sym same) s))
+one_account : (account : Account) (bytes : List ℕ) (answer other : Answer) (text more : List ℕ) → IsSettled (command.Account account) bytes → IsDue answer → IsDue other
+    → IsReported account bytes answer text → IsReported account bytes other more → (answer ≡ other) × (text ≡ more)
+one_account account bytes answer other text more settled d o r s =
+    let same = one_told account bytes answer other text more d o r s in
+    (same, one_text account bytes answer text more settled r (subst (λ a. IsReported account bytes a more) (sym same) s))
 
-some_told : (bytes : List ℕ) (answer : Answer) → IsDue answer → IsVerdict bytes answer
-    → (told : Answer) × (text : List ℕ) × IsDue told × FitsAnswer Report told text × IsReported bytes told text
-some_told bytes (Accepted count) d (header, events, reads, none, is) = (Reported, report_text header (reverse events), tt, tt, (header, events, reads, none, refl))
-some_told bytes (Refused index rule) d v = (Refused index rule, out_text_of (Refused index rule), tt, refl, (v, refl))
-some_told bytes (Malformed line reason) d v = (Malformed line reason, [], tt, refl, (v, refl))
-some_told bytes LimitEvents d v = (LimitEvents, [], tt, refl, (v, refl))
-some_told bytes LimitLines d v = (LimitLines, [], tt, refl, (v, refl))
-some_told bytes ReadFault d v = absurd d
-some_told bytes NoMemory d v = absurd d
-some_told bytes answer d v = absurd v
+some_told : (account : Account) (bytes : List ℕ) (answer : Answer) → IsDue answer → IsVerdict bytes answer
+    → (told : Answer) × (text : List ℕ) × IsDue told × FitsAnswer (command.Account account) told text × IsReported account bytes told text
+some_told account bytes (Accepted count) d (header, events, reads, none, is) =
+    let a = some_account account header (reverse events) (no_stop_accepted header events none) (all_in_fields header.version events reads.events_are_readable) in
+    (Reported, a.0, tt, tt, (header, events, (reads, none), a.1))
+some_told account bytes (Refused index rule) d v = (Refused index rule, out_text_of (Refused index rule), tt, refl, (v, refl))
+some_told account bytes (Malformed line reason) d v = (Malformed line reason, [], tt, refl, (v, refl))
+some_told account bytes LimitEvents d v = (LimitEvents, [], tt, refl, (v, refl))
+some_told account bytes LimitLines d v = (LimitLines, [], tt, refl, (v, refl))
+some_told account bytes ReadFault d v = absurd d
+some_told account bytes NoMemory d v = absurd d
+some_told account bytes answer d v = absurd v
 
 -- ---- traces that are written
 
@@ -239,7 +254,7 @@ pub one_answer : (command : Command) (bytes : List ℕ) (left last : Option (Lis
 one_answer Check bytes left last answer other text more settled d o f g v w =
     let same = one_verdict bytes answer other d o v w in
     (same, f ∙ ap out_text_of same ∙ sym g)
-one_answer Report bytes left last answer other text more settled d o f g r s = one_told bytes answer other text more d o r s
+one_answer (command.Account account) bytes left last answer other text more settled d o f g r s = one_account account bytes answer other text more settled d o r s
 one_answer (Convert conversion) bytes left last answer other text more settled d o f g s t = one_written conversion bytes left last answer other text more d o s t
 one_answer (Gen number) bytes left last answer other text more settled d o f g s t =
     let p = generated_due number answer text d s in
@@ -259,9 +274,9 @@ pub some_answer : (command : Command) (bytes : List ℕ) (left : Option (List �
 some_answer Check bytes left can =
     let v = some_verdict bytes in
     (v.0, out_text_of v.0, v.1, refl, v.2)
-some_answer Report bytes left can =
+some_answer (command.Account account) bytes left can =
     let v = some_verdict bytes in
-    some_told bytes v.0 v.1 v.2
+    some_told account bytes v.0 v.1 v.2
 some_answer (Convert conversion) bytes left can =
     let w = some_written conversion bytes left can in
     (w.0, w.1, w.2, fits_written conversion w.0 w.1 w.2, w.3)

@@ -3,11 +3,11 @@ use Rattle.std.proofs.Common.{◌≡◌, ℕ, List, Option, Some, refl, sym, ap,
 use Rattle.ace_top.specs.declared.answer.Answer.{Answer}
 use Rattle.ace_top.specs.declared.answer.Answer.TheVariants.{NoMemory, Tried}
 use Rattle.ace_top.specs.declared.words.Command.{Command}
-use Rattle.ace_top.specs.declared.words.Command.TheVariants.{Convert, Run, Trial}
+use Rattle.ace_top.specs.declared.words.Command.TheVariants.{Account, Convert, Run, Trial}
 use Rattle.ace_top.specs.Answer.{IsAnswer, FitsAnswer, IsDue}
 use Rattle.ace_top.specs.Run.{IsTried}
 use Rattle.ace_top.specs.Texts.{status_of}
-use Rattle.ace_top.proofs.OneAnswer.{one_answer, one_written}
+use Rattle.ace_top.proofs.OneAnswer.{one_answer, one_told, one_written}
 use Rattle.ace_top.proofs.OneScript.{one_ran}
 
 tried_status : (number : ℕ) (answer : Answer) → IsDue answer → IsTried number answer → status_of answer ≡ 0
@@ -22,4 +22,5 @@ pub one_status : (command : Command) (bytes : List ℕ) (left last : Option (Lis
 one_status Run bytes left last answer other text more d o f g a b = ap status_of (one_ran bytes answer other text more d o a b)
 one_status (Trial number) bytes left last answer other text more d o f g a b = tried_status number answer d a ∙ sym (tried_status number other o b)
 one_status (Convert conversion) bytes left last answer other text more d o f g a b = ap status_of (one_written conversion bytes left last answer other text more d o a b).0
+one_status (Account account) bytes left last answer other text more d o f g a b = ap status_of (one_told account bytes answer other text more d o a b)
 one_status command bytes left last answer other text more d o f g a b = ap status_of (one_answer command bytes left last answer other text more tt d o f g a b).0

@@ -35,7 +35,7 @@ in_fields version (D port addr strobe x line) (p, a, s, l) = (s, l)
 in_fields version (Op port k res) r = tt
 in_fields version (Mem addr line) (other, a, l) = l
 
-all_in_fields : (version : ℕ) (events : List Event) → AllByRecursion (IsReadable version) events → AllByRecursion FitsFields (reverse events)
+pub all_in_fields : (version : ℕ) (events : List Event) → AllByRecursion (IsReadable version) events → AllByRecursion FitsFields (reverse events)
 all_in_fields version [] all = tt
 all_in_fields version (e ∷ events) (one, all) =
     subst (AllByRecursion FitsFields) (sym (reverse-append (e ∷ []) events))

@@ -1,10 +1,13 @@
 -- From the answer of a command to the answer to a list of words.
-use Rattle.std.proofs.Common.{◌≡◌, ◌≢◌, ℕ, List, [], ◌∷◌, Option, String, codes, map, inl, inr, sym, ap, subst, ◌∙◌}
+use Rattle.std.proofs.Common.{◌≡◌, ◌≢◌, ◌⊎◌, ℕ, List, [], ◌∷◌, Option, String, codes, map, inl, inr, sym, ap, subst, ◌∙◌, arith}
 use Rattle.std.specs.String.{string_bytes}
 use Rattle.std.specs.declared.alloc.Global.{Global}
+use Rattle.ace_account.specs.declared.listener.Account.{Account}
+use Rattle.ace_account.specs.declared.listener.Account.TheVariants.{Report, Order}
 use Rattle.ace_convert.specs.declared.conversion.Conversion.{Conversion}
 use Rattle.ace_convert.specs.declared.conversion.Conversion.TheVariants.{Show, Migrate, Pack, Unpack}
 use Rattle.ace_top.specs.declared.words.Command.{Command}
+use Rattle.ace_top.specs.declared.words.Command.TheVariants as command
 use Rattle.ace_top.specs.declared.words.Command.TheVariants.{Convert}
 use Rattle.ace_top.specs.Answer.{CarriesOut, AnswersWords, BreaksOffWords}
 use Rattle.ace_top.specs.Command.{Names}
@@ -13,7 +16,7 @@ use Rattle.ace_top.specs.declared.answer.Answer.TheVariants.{NoMemory, Usage}
 use Rattle.ace_convert.specs.Output.{AppendsPart}
 use Rattle.ace_top.specs.Output.{AppendsParts}
 use Rattle.ace_top.specs.Texts.{notes_text_of}
-use Rattle.ace_top.specs.Words.{IsCheck, IsReport, IsConvert, IsRun, IsGen, IsNumbered, IsTrial, IsTraceCommand, IsReadingCommand, IsCommand, IsNumber, IsWord, word_of}
+use Rattle.ace_top.specs.Words.{IsCheck, IsAccount, IsSomeAccount, IsConvert, IsRun, IsGen, IsNumbered, IsTrial, IsTraceCommand, IsReadingCommand, IsCommand, IsNumber, IsWord, account_word, word_of}
 
 pub words_carried : (words : List (String Global)) (command : Command) (input left : Option (List ℕ)) (status : ℕ) (out out' notes notes' : Option (List ℕ)) (faults faults' : ℕ)
     → CarriesOut command input left status out out' notes notes' faults faults' → Names words command → status ≢ 5 → AnswersWords words input left status out out' notes notes'
@@ -36,8 +39,11 @@ memory_broken words input left out out' notes notes' part parts = inr (inr (noth
 pub is_check : (words : List (String Global)) → IsCheck words → IsTraceCommand words
 is_check words n = inl n
 
-pub is_report : (words : List (String Global)) → IsReport words → IsTraceCommand words
-is_report words n = inr (inl n)
+pub is_account : (words : List (String Global)) (account : Account) → IsAccount words account → IsSomeAccount words
+is_account words account n = (account, n)
+
+pub is_some_account : (words : List (String Global)) → IsSomeAccount words → IsTraceCommand words
+is_some_account words n = inr (inl n)
 
 pub is_convert : (words : List (String Global)) (conversion : Conversion) → IsConvert words conversion → IsTraceCommand words
 is_convert words conversion n = inr (inr (conversion, n))
@@ -63,16 +69,36 @@ is_trial words number n = inr (number, inr n)
 -- the word `run` names no trace command
 pub runs_no_trace : (words : List (String Global)) → IsRun words → ¬ IsTraceCommand words
 runs_no_trace words n (inl one) = absurd cc
-runs_no_trace words n (inr (inl one)) = absurd cc
+runs_no_trace words n (inr (inl (Report, one))) = absurd cc
+runs_no_trace words n (inr (inl (Order, one))) = absurd cc
 runs_no_trace words n (inr (inr (Show, one))) = absurd cc
 runs_no_trace words n (inr (inr (Migrate, one))) = absurd cc
 runs_no_trace words n (inr (inr (Pack, one))) = absurd cc
 runs_no_trace words n (inr (inr (Unpack, one))) = absurd cc
 
+abbrev first_letter : List (List ℕ) → ℕ
+first_letter ((letter ∷ text) ∷ words) = letter
+first_letter words = 0
+
+-- the word of a conversion names no command that tells a verdict
+pub converts_no_verdict : (words : List (String Global)) (conversion : Conversion) → IsConvert words conversion → ¬ (IsCheck words ⊎ IsSomeAccount words)
+converts_no_verdict words Show n (inl one) = absurd cc
+converts_no_verdict words Show n (inr (Report, one)) = absurd cc
+converts_no_verdict words Show n (inr (Order, one)) = absurd cc
+converts_no_verdict words Migrate n (inl one) = absurd cc
+converts_no_verdict words Migrate n (inr (Report, one)) = absurd cc
+converts_no_verdict words Migrate n (inr (Order, one)) = absurd cc
+converts_no_verdict words Pack n (inl one) = absurd cc
+converts_no_verdict words Pack n (inr (Report, one)) = absurd cc
+converts_no_verdict words Pack n (inr (Order, one)) = absurd cc
+converts_no_verdict words Unpack n (inl one) = absurd cc
+converts_no_verdict words Unpack n (inr (Report, one)) = let e : ◌≡◌ {A = ℕ} 117 114 = ap first_letter (sym n ∙ one) in absurd (omega (arith, e))
+converts_no_verdict words Unpack n (inr (Order, one)) = absurd cc
+
 -- nor do two words name a command that reads its input
 two_words : (words : List (String Global)) (text : List ℕ) (number : ℕ) → IsNumbered words text number → ¬ IsReadingCommand words
 two_words words text number (word, are, is) (inl (inl one)) = absurd cc
-two_words words text number (word, are, is) (inl (inr (inl one))) = absurd cc
+two_words words text number (word, are, is) (inl (inr (inl (account, one)))) = absurd cc
 two_words words text number (word, are, is) (inl (inr (inr (conversion, one)))) = absurd cc
 two_words words text number (word, are, is) (inr one) = absurd cc
 
@@ -87,7 +113,8 @@ pub ruleset words_answered = (
   words_broken,
   usage_broken,
   is_check,
-  is_report,
+  is_account,
+  is_some_account,
   is_convert,
   is_run,
   is_trace_command,
@@ -96,6 +123,7 @@ pub ruleset words_answered = (
   is_gen,
   is_trial,
   runs_no_trace,
+  converts_no_verdict,
   gen_reads_nothing,
   trial_reads_nothing,
 )
@@ -106,14 +134,18 @@ pub ruleset words_answered = (
 same_word : (words : List (String Global)) (text other : List ℕ) → map string_bytes words ≡ text ∷ [] → IsWord words other → text ≡ other
 same_word words text other are is = let e : text ∷ [] ≡ other ∷ [] = sym are ∙ is in cc
 
-pub names_none : (words : List (String Global)) (text : List ℕ) → map string_bytes words ≡ text ∷ [] → text ≢ codes "check" → text ≢ codes "report" → text ≢ codes "run"
-    → ((conversion : Conversion) → text ≢ word_of conversion) → ¬ IsCommand words
-names_none words text are check report run none (inl (inl (inl one))) = check (same_word words text (codes "check") are one)
-names_none words text are check report run none (inl (inl (inr (inl one)))) = report (same_word words text (codes "report") are one)
-names_none words text are check report run none (inl (inl (inr (inr (conversion, one))))) = none conversion (same_word words text (word_of conversion) are one)
-names_none words text are check report run none (inl (inr one)) = run (same_word words text (codes "run") are one)
-names_none words text are check report run none (inr (number, inl (word, two, is))) = absurd cc
-names_none words text are check report run none (inr (number, inr (word, two, is))) = absurd cc
+pub names_none : (words : List (String Global)) (text : List ℕ) → map string_bytes words ≡ text ∷ [] → text ≢ codes "check" → text ≢ codes "run"
+    → ((account : Account) → text ≢ account_word account) → ((conversion : Conversion) → text ≢ word_of conversion) → ¬ IsCommand words
+names_none words text are check run account none (inl (inl (inl one))) = check (same_word words text (codes "check") are one)
+names_none words text are check run account none (inl (inl (inr (inl (a, one))))) = account a (same_word words text (account_word a) are one)
+names_none words text are check run account none (inl (inl (inr (inr (conversion, one))))) = none conversion (same_word words text (word_of conversion) are one)
+names_none words text are check run account none (inl (inr one)) = run (same_word words text (codes "run") are one)
+names_none words text are check run account none (inr (number, inl (word, two, is))) = absurd cc
+names_none words text are check run account none (inr (number, inr (word, two, is))) = absurd cc
+
+pub names_account : (words : List (String Global)) (text : List ℕ) (account : Account) → map string_bytes words ≡ text ∷ [] → text ≡ account_word account
+    → Names words (command.Account account)
+names_account words text account are is = are ∙ ap (λ t. t ∷ []) is
 
 pub names_conversion : (words : List (String Global)) (text : List ℕ) (conversion : Conversion) → map string_bytes words ≡ text ∷ [] → text ≡ word_of conversion
     → Names words (Convert conversion)
@@ -123,7 +155,7 @@ names_conversion words text conversion are is = are ∙ ap (λ t. t ∷ []) is
 pub names_no_two : (words : List (String Global)) (text word : List ℕ) → map string_bytes words ≡ text ∷ word ∷ []
     → ((number : ℕ) → IsNumber word number → (text ≢ codes "gen") × (text ≢ codes "trial")) → ¬ IsCommand words
 names_no_two words text word are none (inl (inl (inl one))) = absurd cc
-names_no_two words text word are none (inl (inl (inr (inl one)))) = absurd cc
+names_no_two words text word are none (inl (inl (inr (inl (account, one))))) = absurd cc
 names_no_two words text word are none (inl (inl (inr (inr (conversion, one))))) = absurd cc
 names_no_two words text word are none (inl (inr one)) = absurd cc
 names_no_two words text word are none (inr (number, inl (other, two, is))) =
@@ -137,4 +169,4 @@ names_no_two words text word are none (inr (number, inr (other, two, is))) =
     let t : text ≡ codes "trial" = cc in
     (none number (subst (λ x. IsNumber x number) (sym w) is)).1 t
 
-pub ruleset naming = (names_none, names_conversion)
+pub ruleset naming = (names_none, names_account, names_conversion)

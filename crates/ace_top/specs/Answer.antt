@@ -3,6 +3,9 @@ use Rattle.std.specs.Prelude.{◌≡◌, ◌≢◌, ◌<◌, ◌≤◌, ◌-◌,
 use Rattle.std.specs.Io.KnownBytes.{Appends}
 use Rattle.std.specs.declared.alloc.Global.{Global}
 use Rattle.ace_io.specs.Faults.{Rose}
+use Rattle.ace_account.specs.declared.listener.Account.TheVariants.{Order}
+use Rattle.ace_event.specs.declared.event.Event.{Event}
+use Rattle.ace_event.specs.declared.header.Header.{Header}
 use Rattle.ace_convert.specs.declared.conversion.Conversion.{Conversion}
 use Rattle.ace_convert.specs.Converted.{CanBeRead, ConvertsFront}
 use Rattle.ace_convert.specs.Output.{AppendsPart}
@@ -12,12 +15,12 @@ use Rattle.ace_script.specs.Reading.{Reads, Whole}
 use Rattle.ace_top.specs.declared.answer.Answer.{Answer}
 use Rattle.ace_top.specs.declared.answer.Answer.TheVariants.{Accepted, NoMemory, Ran, ReadFault, Reported, Usage}
 use Rattle.ace_top.specs.declared.words.Command.{Command}
-use Rattle.ace_top.specs.declared.words.Command.TheVariants.{Check, Report, Convert, Run, Gen, Trial}
+use Rattle.ace_top.specs.declared.words.Command.TheVariants.{Check, Account, Convert, Run, Gen, Trial}
 use Rattle.ace_top.specs.Command.{Names}
 use Rattle.ace_top.specs.Generate.{IsGenerated}
 use Rattle.ace_top.specs.Output.{AppendsParts}
 use Rattle.ace_top.specs.Texts.{status_of, out_text_of, notes_text_of}
-use Rattle.ace_top.specs.Report.{IsReported}
+use Rattle.ace_top.specs.Report.{AreAccepted, IsReported}
 use Rattle.ace_top.specs.Run.{IsRan, IsTried, WritesSomeRun}
 use Rattle.ace_top.specs.Verdict.{IsVerdict}
 use Rattle.ace_top.specs.Words.{IsCommand}
@@ -26,21 +29,22 @@ use Rattle.ace_top.specs.Written.{IsWritten}
 -- what a command answers to this input, of which this is left, with this text on the standard output
 abbrev pub IsAnswer : Command → Option (List ℕ) → Option (List ℕ) → Answer → List ℕ → Type 0
 IsAnswer Check input left answer text = IfSome input (λ bytes. IsVerdict bytes answer)
-IsAnswer Report input left answer text = IfSome input (λ bytes. IsReported bytes answer text)
+IsAnswer (Account account) input left answer text =
+    IfSome input (λ bytes. IsReported account bytes answer text)
 IsAnswer (Convert conversion) input left answer text =
     IfSome input (λ bytes. IsWritten conversion bytes left answer text)
 IsAnswer Run input left answer text = IfSome input (λ bytes. IsRan bytes answer text)
 IsAnswer (Gen number) input left answer text = IsGenerated number answer text
 IsAnswer (Trial number) input left answer text = IsTried number answer
 
--- what the answer alone says of that text: `check` writes no more than its answer, and so does `report` where it reports no
--- trace; what writes a trace of a trace writes nothing where there was no memory; `run` writes the trace of a run of some script, or nothing; `trial`
+-- what the answer alone says of that text: `check` writes no more than its answer, and so do `report` and `order`
+-- where the trace isn't accepted; what writes a trace of a trace writes nothing where there was no memory; `run` writes the trace of a run of some script, or nothing; `trial`
 -- writes no more than its answer; and of `gen` it is said above
 abbrev pub FitsAnswer : Command → Answer → List ℕ → Type 0
 FitsAnswer Check answer text = text ≡ out_text_of answer
-FitsAnswer Report Reported text = ⊤
-FitsAnswer Report (Accepted events) text = ⊥
-FitsAnswer Report answer text = text ≡ out_text_of answer
+FitsAnswer (Account account) Reported text = ⊤
+FitsAnswer (Account account) (Accepted events) text = ⊥
+FitsAnswer (Account account) answer text = text ≡ out_text_of answer
 FitsAnswer (Convert conversion) NoMemory text = text ≡ []
 FitsAnswer (Convert conversion) answer text = ⊤
 FitsAnswer Run Ran text = WritesSomeRun text
@@ -60,10 +64,12 @@ CanBeInput (Convert conversion) bytes = CanBeRead (form_read conversion) bytes
 CanBeInput command bytes = ⊤
 
 -- the words and the bytes of the input alone tell what the command writes: it runs no script, or
--- the input isn't a whole one
+-- the input isn't a whole one; and it writes no certificate, or the input isn't accepted
 abbrev pub IsSettled : Command → List ℕ → Type 0
 IsSettled Run bytes = (plan : Plan) → Reads bytes plan Whole → ⊥
 IsSettled (Trial number) bytes = ⊥
+IsSettled (Account Order) bytes =
+    (header : Header) (events : List Event) → AreAccepted bytes header events → ⊥
 IsSettled command bytes = CanBeInput command bytes
 
 -- The status is that of an answer of the command, and its texts were appended to the two outputs, whether or not the input

@@ -2,12 +2,12 @@
 use Rattle.std.specs.Prelude.{List, String}
 use Rattle.std.specs.declared.alloc.Global.{Global}
 use Rattle.ace_top.specs.declared.words.Command.{Command}
-use Rattle.ace_top.specs.declared.words.Command.TheVariants.{Check, Report, Convert, Run, Gen, Trial}
-use Rattle.ace_top.specs.Words.{IsCheck, IsReport, IsConvert, IsRun, IsGen, IsTrial}
+use Rattle.ace_top.specs.declared.words.Command.TheVariants.{Check, Account, Convert, Run, Gen, Trial}
+use Rattle.ace_top.specs.Words.{IsCheck, IsAccount, IsConvert, IsRun, IsGen, IsTrial}
 
 abbrev pub Names : List (String Global) → Command → Type 0
 Names words Check = IsCheck words
-Names words Report = IsReport words
+Names words (Account account) = IsAccount words account
 Names words (Convert conversion) = IsConvert words conversion
 Names words Run = IsRun words
 Names words (Gen number) = IsGen words number

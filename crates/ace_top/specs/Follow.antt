@@ -1,8 +1,8 @@
 -- What follows a trace event by event.
-use Rattle.std.specs.Prelude.{◌≡◌, ◌<◌, ◌-◌, ◌^◌, ◌∷◌, false, is_some, ℕ, List, Option, Some, None, Result, Ok, Err, IfNone, IfSome, [], length, reverse}
+use Rattle.std.specs.Prelude.{◌≡◌, ◌<◌, ◌∷◌, false, option_map, ℕ, List, Option, Some, None, Result, Ok, Err, IfNone, IfSome, [], length, reverse}
 use Rattle.ace_event.specs.declared.event.Event.{Event}
 use Rattle.ace_event.specs.declared.header.Header.{Header}
-use Rattle.ace_grammar.specs.Reading.{Reads, Whole}
+use Rattle.ace_grammar.specs.Reading.{Reads, Whole, most_events}
 use Rattle.ace_model.specs.Trace.{Trace}
 use Rattle.ace_model.specs.Accepted.{IsAccepted, least_broken}
 use Rattle.ace_check.specs.Promises.{goes_over}
@@ -11,7 +11,8 @@ use Rattle.ace_check.specs.declared.checker.CheckErr.{CheckErr}
 use Rattle.ace_check.specs.declared.checker.CheckErr.TheVariants as lacks
 use Rattle.ace_check.specs.declared.checker.Step.{Step}
 use Rattle.ace_check.specs.declared.checker.Step.TheVariants.{Fine, Broken}
-use Rattle.ace_report.specs.Stands as report
+use Rattle.ace_account.specs.Listeners as listening
+use Rattle.ace_account.specs.declared.listener.Account.{Account}
 use Rattle.ace_top.specs.declared.answer.Answer.{Answer}
 use Rattle.ace_top.specs.declared.answer.Answer.TheVariants.{Refused, LimitLines, NoMemory}
 use Rattle.ace_top.specs.declared.follow.Follower.{Follower}
@@ -25,11 +26,15 @@ fed_answer (Ok (Broken index rule)) = Some (Refused index rule)
 fed_answer (Err lacks.NoMemory) = Some NoMemory
 fed_answer (Err lacks.TooManyLines) = Some LimitLines
 
--- The follower has come to the end of an accepted trace: its checker stands for it, and so does the report, where it keeps one.
--- Nothing has ended the check.
+-- the account that is asked for
+abbrev pub asked_of : Follower → Option Account
+asked_of f = option_map listening.account_of f.listener
+
+-- The follower has come to the end of an accepted trace: its checker stands for it, and what hears
+-- it has heard it, where an account is asked for. Nothing has ended the check.
 pub record Follows (f : Follower) (h : Header) (past : Trace) : Type 0 where
   pub checker : check.Stands f.checker h past None
-  pub report : IfSome f.report (λ r. report.Stands r h past)
+  pub listener : IfSome f.listener (λ l. listening.Stands l h past)
   pub accepted : IsAccepted h past
   pub goes_on : f.stop ≡ None
 
@@ -37,12 +42,12 @@ pub record Follows (f : Follower) (h : Header) (past : Trace) : Type 0 where
 pub record HasTaken (old : Follower) (event : Event) (new : Follower) : Type 0 where
   pub fine : (h : Header) (past : Trace) → Follows old h past
       → IfNone new.stop ((least_broken h past event ≡ None) × (goes_over past event ≡ false))
-  pub follows : (h : Header) (past : Trace) → Follows old h past → length past < 2 ^ 64 - 2
+  pub follows : (h : Header) (past : Trace) → Follows old h past → length past < most_events
       → IfNone new.stop (Follows new h (event ∷ past))
   pub stops : (h : Header) (past : Trace) → Follows old h past
       → IfSome new.stop (StopsAt h past event)
   pub stop : IfSome new.stop IsStop
-  pub same_reports : is_some new.report ≡ is_some old.report
+  pub same_account : asked_of new ≡ asked_of old
 
 -- The same, where nothing had ended the check before.
 abbrev pub TakesOn : Follower → Event → Follower → Type 0

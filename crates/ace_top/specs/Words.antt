@@ -2,6 +2,8 @@
 use Rattle.std.specs.Prelude.{◌≡◌, ◌<◌, ◌^◌, ◌⊎◌, ℕ, List, [], ◌∷◌, map, codes, decimal, String}
 use Rattle.std.specs.String.{string_bytes}
 use Rattle.std.specs.declared.alloc.Global.{Global}
+use Rattle.ace_account.specs.declared.listener.Account.{Account}
+use Rattle.ace_account.specs.declared.listener.Account.TheVariants.{Report, Order}
 use Rattle.ace_convert.specs.declared.conversion.Conversion.{Conversion}
 use Rattle.ace_convert.specs.declared.conversion.Conversion.TheVariants.{Show, Migrate, Pack, Unpack}
 
@@ -12,8 +14,17 @@ IsWord words text = map string_bytes words ≡ text ∷ []
 abbrev pub IsCheck : List (String Global) → Type 0
 IsCheck words = IsWord words (codes "check")
 
-abbrev pub IsReport : List (String Global) → Type 0
-IsReport words = IsWord words (codes "report")
+-- the word for an account of an accepted trace
+abbrev pub account_word : Account → List ℕ
+account_word Report = codes "report"
+account_word Order = codes "order"
+
+-- the word is that of an account
+abbrev pub IsAccount : List (String Global) → Account → Type 0
+IsAccount words account = IsWord words (account_word account)
+
+abbrev pub IsSomeAccount : List (String Global) → Type 0
+IsSomeAccount words = (account : Account) × IsAccount words account
 
 -- the word for a conversion
 abbrev pub word_of : Conversion → List ℕ
@@ -46,7 +57,7 @@ IsTrial words number = IsNumbered words (codes "trial") number
 -- The words name a command that reads a trace.
 abbrev pub IsTraceCommand : List (String Global) → Type 0
 IsTraceCommand words =
-    IsCheck words ⊎ IsReport words ⊎ ((conversion : Conversion) × IsConvert words conversion)
+    IsCheck words ⊎ IsSomeAccount words ⊎ ((conversion : Conversion) × IsConvert words conversion)
 
 -- The words name a command that reads its input: a trace, or a script.
 abbrev pub IsReadingCommand : List (String Global) → Type 0

@@ -24,7 +24,7 @@ pub enum Answer {
     },
     /// The trace was written to its end.
     Shown,
-    /// The report of an accepted trace was written.
+    /// The account of an accepted trace that was asked for was written.
     Reported,
     /// The script that is made from a number was written.
     Generated,
@@ -193,7 +193,9 @@ pub fn notes_text(answer: Answer) -> ArrayString<96>
             return malformed_text("byte", byte, "Z", reason.number());
         }
         Answer::Usage => {
-            text.push_str("usage: ace check|run|show|migrate|pack|unpack|report|gen N|trial N\n");
+            text.push_str(
+                "usage: ace check|run|show|migrate|pack|unpack|report|order|gen N|trial N\n",
+            );
         }
         Answer::ReadFault => text.push_str("read fault\n"),
         Answer::LimitEvents => text.push_str("limit events\n"),

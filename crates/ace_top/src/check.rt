@@ -1,18 +1,19 @@
-// Checks a trace, event by event, as it is read, and reports it where that is asked for.
-ghost use Rattle.std.specs.Prelude.{◌≡◌, ◌≤◌, ℕ, List, [], Option, None, false, is_some, IfSome, IfOk, IfErr, OnOk};
+// Checks a trace, event by event, as it is read, and gives an account of it where one is asked for.
+ghost use Rattle.std.specs.Prelude.{◌≡◌, ◌≤◌, ℕ, List, [], Option, None, false, IfSome, IfOk, IfErr, OnOk};
 ghost use Rattle.ace_grammar.specs.Errors.{LeavesNothing, TakesFront};
 ghost use Rattle.ace_grammar.specs.Reader.{source_of, unread, header_of, count_of, last_answer, lasting, given};
 ghost use Rattle.ace_grammar.specs.Reading.{most_events};
 ghost use Rattle.ace_top.specs.Answer.{CarriesOut, HasStatusCause};
 ghost use Rattle.ace_top.specs.ErrorAnswer.{ends_so};
-ghost use Rattle.ace_top.specs.Follow.{Follows, HasComeTo, HasFollowed};
+ghost use Rattle.ace_top.specs.Follow.{Follows, HasComeTo, HasFollowed, asked_of};
 ghost use Rattle.ace_top.specs.Progress.{EndsInput, HasReadCause, IsRefusal, IsStop, IsVerdictAnswer, StandsAt};
 ghost use Rattle.ace_top.specs.Verdict.{IsVerdict, ReadsSound};
 ghost use Rattle.ace_top.specs.declared.words.Command.TheVariants as command;
 
 use crate::answer::{Answer, error_answer};
-use crate::follow::{Follower, events_of, put_report};
+use crate::follow::{Follower, events_of, put_account};
 use crate::output::{break_off, conclude};
+use ace_account::{Account, AccountErr};
 use ace_event::Event;
 use ace_grammar::{NO_EVENT, Reader};
 use ace_io::{Sink, Source};
@@ -37,25 +38,29 @@ pub fn tell_verdict<S: Source, K: Sink, E: Sink>(
     conclude(out, notes, verdict)
 }
 
-/// Reports the trace that the input gives, where it is accepted, and else tells the verdict; returns the status.
+/// Gives an account of the trace that the input gives, where it is accepted, and else tells the
+/// verdict; returns the status.
 #[tactic(auto, using(crate::proofs::AcceptedEnd::accepted_end))]
-pub fn tell_report<S: Source, K: Sink, E: Sink>(
+pub fn tell_account<S: Source, K: Sink, E: Sink>(
     alloc: Global,
     input: &mut S,
     out: &mut K,
     notes: &mut E,
+    account: Account,
 ) -> u8
-    ensures carried_out { CarriesOut command.Report (S.left input.old) (S.left input.new) result (K.held out.old) (K.held out.new)
+    ensures carried_out { CarriesOut (command.Account account) (S.left input.old) (S.left input.new)
+        result (K.held out.old) (K.held out.new)
         (E.held notes.old) (E.held notes.new) (E.faults notes.old) (E.faults notes.new) }
     ensures cause { HasStatusCause result (S.faults input.old) (S.faults input.new)
         (K.faults out.old) (K.faults out.new) (E.faults notes.old) (E.faults notes.new) }
     ensures sound { result ≡ 0 → IfSome (S.left input.old) ReadsSound }
     ensures whole { result ≡ 0 → LeavesNothing (S.left input.old) (S.left input.new) }
 {
-    match check(alloc, input, true) {
-        Ok(follower) => match put_report(follower, out) {
+    match check(alloc, input, Some(account)) {
+        Ok(follower) => match put_account(follower, out) {
             Ok(()) => conclude(out, notes, Answer::Reported),
-            Err(_) => break_off(notes),
+            Err(AccountErr::NoMemory) => conclude(out, notes, Answer::NoMemory),
+            Err(AccountErr::Failed) => break_off(notes),
         },
         Err(answer) => conclude(out, notes, answer),
     }
@@ -69,7 +74,7 @@ fn verdict<S: Source>(alloc: Global, input: &mut S) -> Answer
     ensures cause { HasReadCause (S.faults input.old) (S.faults input.new) result }
     ensures answer { IsVerdictAnswer result }
 {
-    match check(alloc, input, false) {
+    match check(alloc, input, None) {
         Ok(follower) => Answer::Accepted {
             events: events_of(follower),
         },
@@ -77,20 +82,24 @@ fn verdict<S: Source>(alloc: Global, input: &mut S) -> Answer
     }
 }
 
-/// Follows the trace that the input gives, and reports it if that is asked for: what followed it to its end, where it is accepted,
+/// Follows the trace that the input gives, for an account of it if one is asked for: what followed it to its end, where it is accepted,
 /// or else the answer.
 #[tactic(auto, using(crate::proofs::ProgressLemmas::progress, crate::proofs::ErrorLemmas::errors))]
-fn check<S: Source>(alloc: Global, input: &mut S, reports: bool) -> Result<Follower, Answer>
+fn check<S: Source>(
+    alloc: Global,
+    input: &mut S,
+    account: Option<Account>,
+) -> Result<Follower, Answer>
     ensures accepted { IfOk result (HasFollowed (S.left input.old)) }
     ensures verdict { IfErr result (λ answer. IfSome (S.left input.old) (λ bytes. IsVerdict bytes answer)) }
     ensures refusal { IfErr result IsRefusal }
-    ensures reports { IfOk result (λ f. is_some f.report ≡ reports) }
+    ensures account { IfOk result (λ f. asked_of f ≡ account) }
     ensures end { OnOk result (LeavesNothing (S.left input.old) (S.left input.new)) }
     ensures steady { OnOk result (S.faults input.new ≡ S.faults input.old) }
     ensures cause { IfErr result (HasReadCause (S.faults input.old) (S.faults input.new)) }
 {
     match Reader::start(alloc, input) {
-        Ok(mut reader) => match Follower::new(alloc, reader.header(), reports) {
+        Ok(mut reader) => match Follower::new(alloc, reader.header(), account) {
             Some(follower) => follow(follower, &mut reader),
             None => Err(Answer::NoMemory),
         },
@@ -103,7 +112,7 @@ fn follow<S: Source>(mut follower: Follower, reader: &mut Reader<S>) -> Result<F
     requires reads_on { last_answer reader.old ≡ None }
     requires fresh { count_of reader.old ≡ 0 }
     ensures same_source { (source_of reader.new).ghost_name ≡ (source_of reader.old).ghost_name }
-    ensures same_reports { IfOk result (λ f. is_some f.report ≡ is_some follower.report) }
+    ensures same_account { IfOk result (λ f. asked_of f ≡ asked_of follower) }
     ensures accepted { (told : Option (List ℕ)) → Follows follower (header_of reader.old) []
         → StandsAt told (header_of reader.old) [] (unread S.left reader.old) → IfOk result (HasFollowed told) }
     ensures verdict { (told : Option (List ℕ)) → Follows follower (header_of reader.old) []
@@ -126,7 +135,7 @@ fn check_events<S: Source>(follower: &mut Follower, reader: &mut Reader<S>) -> R
     requires reads_on { last_answer reader.old ≡ None }
     requires fresh { count_of reader.old ≡ 0 }
     ensures same_source { (source_of reader.new).ghost_name ≡ (source_of reader.old).ghost_name }
-    ensures same_reports { is_some follower.new.report ≡ is_some follower.old.report }
+    ensures same_account { asked_of follower.new ≡ asked_of follower.old }
     ensures accepted { (told : Option (List ℕ)) → Follows follower.old (header_of reader.old) []
         → StandsAt told (header_of reader.old) [] (unread S.left reader.old) → OnOk result (HasFollowed told follower.new) }
     ensures verdict { (told : Option (List ℕ)) → Follows follower.old (header_of reader.old) []
@@ -148,14 +157,14 @@ fn check_events<S: Source>(follower: &mut Follower, reader: &mut Reader<S>) -> R
     ending(reader, &mut event)
 }
 
-/// Follows the next events while they are read, as far as that can be, if no report is asked for.
+/// Follows the next events while they are read, as far as that can be, if no account is asked for.
 #[inline(always)]
 #[tactic(auto, using(crate::proofs::Handed::all_front, crate::proofs::ProgressLemmas::no_front))]
 fn follow_at_once<S: Source>(follower: &mut Follower, reader: &mut Reader<S>)
     ensures same_source { (source_of reader.new).ghost_name ≡ (source_of reader.old).ghost_name }
     ensures source { (source_of reader.new).now ≡ (source_of reader.old).now }
     ensures same_header { header_of reader.new ≡ header_of reader.old }
-    ensures same_reports { is_some follower.new.report ≡ is_some follower.old.report }
+    ensures same_account { asked_of follower.new ≡ asked_of follower.old }
     ensures same_answer { last_answer reader.new ≡ last_answer reader.old }
     ensures further { count_of reader.old ≤ count_of reader.new }
     ensures few { count_of reader.old ≤ most_events → count_of reader.new ≤ most_events }

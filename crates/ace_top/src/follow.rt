@@ -1,27 +1,26 @@
-// Follows a trace event by event: checks it, and reports it where that is asked for.
-ghost use Rattle.std.specs.Prelude.{◌≡◌, ◌<◌, ◌-◌, ◌^◌, ◌∷◌, ℕ, Option, None, Some, [], true, false, not, is_some, length, IfNone, IfSome, OnOk, OnErr};
-ghost use Rattle.std.specs.Io.KnownBytes.{Appends};
+// Follows a trace event by event: checks it, and lets it be heard where an account is asked for.
+ghost use Rattle.std.specs.Prelude.{◌≡◌, ◌<◌, ◌-◌, ◌^◌, ◌∷◌, ℕ, Option, None, Some, [], false, not, is_some, length, IfNone, IfSome};
 ghost use Rattle.ace_event.specs.Ports.{IsHeader};
 ghost use Rattle.ace_event.specs.declared.header.Header.{Header};
-ghost use Rattle.ace_io.specs.Faults.{HasCause};
 ghost use Rattle.ace_model.specs.declared.breaks.Break.{Break};
 ghost use Rattle.ace_model.specs.Trace.{Trace};
 ghost use Rattle.ace_model.specs.Accepted.{IsAccepted, least_broken};
 ghost use Rattle.ace_model.specs.Copies.{memory_of};
 ghost use Rattle.ace_check.specs.Promises.{goes_over};
 ghost use Rattle.ace_check.specs.Run as check;
-ghost use Rattle.ace_report.specs.Stands as reporting;
-ghost use Rattle.ace_report.specs.Report.{report_text};
-ghost use Rattle.ace_top.specs.Follow.{Follows, HasTaken, TakesOn, fed_answer};
-ghost use Rattle.ace_convert.specs.Output.{AppendsPart};
+ghost use Rattle.ace_account.specs.Accounts.{HasPut, HasPutCause};
+ghost use Rattle.ace_account.specs.Listeners as listening;
+ghost use Rattle.ace_grammar.specs.Reading.{most_events};
+ghost use Rattle.ace_top.specs.Follow.{Follows, HasTaken, TakesOn, asked_of, fed_answer};
 ghost use Rattle.ace_top.specs.Progress.{IsStop, StopsAt};
 
 use crate::answer::Answer;
+use ace_account::{Account, AccountErr, Listener};
 use ace_check::{CheckErr, Checker, Step};
 use ace_event::{Event, Header, Line};
 use ace_grammar::Taker;
-use ace_io::{Failed, Sink};
-use ace_report::{Report, told_line};
+use ace_io::Sink;
+use ace_report::told_line;
 use std::alloc::Global;
 
 /// The answer that ends the check, if the checker doesn't say that the event is fine.
@@ -73,22 +72,24 @@ fn memory_at(checker: &Checker, line: Option<u32>) -> Line
     }
 }
 
-/// Checks the next event and reports it. An answer ends both.
-fn hear(checker: &mut Checker, report: &mut Report, event: &Event) -> Option<Answer>
+/// Checks the next event and lets it be heard. An answer ends both.
+fn hear(checker: &mut Checker, listener: &mut Listener, event: &Event) -> Option<Answer>
     ensures fine { (h : Header) (past : Trace) → check.Stands checker.old h past None
         → IfNone result ((least_broken h past event.now ≡ None) × (goes_over past event.now ≡ false)) }
     ensures stands { (h : Header) (past : Trace) → check.Stands checker.old h past None → length past < 2 ^ 64 - 2
         → IfNone result (check.Stands checker.new h (event.now ∷ past) None) }
-    ensures reports { (h : Header) (past : Trace) → check.Stands checker.old h past None → reporting.Stands report.old h past
-        → IsAccepted h past → length past < 2 ^ 64 - 2 → IfNone result (reporting.Stands report.new h (event.now ∷ past)) }
+    ensures heard { (h : Header) (past : Trace) → check.Stands checker.old h past None
+        → listening.Stands listener.old h past → IsAccepted h past → length past < most_events
+        → IfNone result (listening.Stands listener.new h (event.now ∷ past)) }
+    ensures same_account { listening.account_of listener.new ≡ listening.account_of listener.old }
     ensures stops { (h : Header) (past : Trace) → check.Stands checker.old h past None → IfSome result (StopsAt h past event.now) }
     ensures stop { IfSome result IsStop }
 {
     let line = told_line(event, checker.ports());
     let memory = memory_at(checker, line);
-    let told = report.hear(event, checker.ports(), line, memory);
+    let heard = listener.hear(event, checker.ports(), line, memory);
     match feed(checker, event) {
-        None => match told {
+        None => match heard {
             Ok(()) => None,
             Err(_) => Some(Answer::NoMemory),
         },
@@ -96,50 +97,50 @@ fn hear(checker: &mut Checker, report: &mut Report, event: &Event) -> Option<Ans
     }
 }
 
-/// What follows a trace: its checker, its report where that is asked for, and the answer that
-/// ended its check, if one did.
+/// What follows a trace: its checker, what hears it where an account is asked for, and the answer
+/// that ended its check, if one did.
 #[derive(Drop)]
 pub struct Follower {
     checker: Checker,
-    report: Option<Report>,
+    listener: Option<Listener>,
     stop: Option<Answer>,
 }
 
 impl Follower {
     /// The follower of the empty trace under this header, or None where there is no memory.
-    pub fn new(alloc: Global, header: Header, reports: bool) -> Option<Follower>
+    pub fn new(alloc: Global, header: Header, account: Option<Account>) -> Option<Follower>
         requires { IsHeader header }
         ensures follows { IfSome result (λ f. Follows f header []) }
-        ensures reports { IfSome result (λ f. is_some f.report ≡ reports) }
+        ensures account { IfSome result (λ f. asked_of f ≡ account) }
     {
         let checker = match Checker::new(alloc, header) {
             Ok(checker) => checker,
             Err(_) => return None,
         };
-        if !reports {
-            return Some(Follower {
+        match account {
+            Some(account) => match Listener::new(alloc, header, account) {
+                Ok(listener) => Some(Follower {
+                    checker,
+                    listener: Some(listener),
+                    stop: None,
+                }),
+                Err(_) => None,
+            },
+            None => Some(Follower {
                 checker,
-                report: None,
-                stop: None,
-            });
-        }
-        match Report::new(alloc, header) {
-            Ok(report) => Some(Follower {
-                checker,
-                report: Some(report),
+                listener: None,
                 stop: None,
             }),
-            Err(_) => None,
         }
     }
 
-    /// Follows one more event of the trace, of fewer than 2^64 - 1. It ends the check where it
-    /// breaks a rule, or names a line too many, or there is no memory.
+    /// Follows one more event of the trace, of as many as a trace may have. It ends the check
+    /// where it breaks a rule, or names a line too many, or there is no memory.
     pub fn take(&mut self, event: &Event)
         ensures { HasTaken self.old event.now self.new }
     {
-        match &mut self.report {
-            Some(report) => self.stop = hear(&mut self.checker, report, event),
+        match &mut self.listener {
+            Some(listener) => self.stop = hear(&mut self.checker, listener, event),
             None => self.stop = feed(&mut self.checker, event),
         }
     }
@@ -152,12 +153,12 @@ impl Follower {
         self.stop
     }
 
-    /// Whether no report is asked for: then events may be handed over.
+    /// Whether no account is asked for: then events may be handed over.
     #[inline(always)]
     pub fn is_brief(&self) -> bool
-        ensures { result ≡ not (is_some self.now.report) }
+        ensures { result ≡ not (is_some self.now.listener) }
     {
-        self.report.is_none()
+        self.listener.is_none()
     }
 
     /// How many events were followed.
@@ -166,29 +167,15 @@ impl Follower {
     {
         self.checker.count()
     }
-
-    /// Puts the text of the report, where there is one.
-    pub fn put<K: Sink>(&self, sink: &mut K) -> Result<(), Failed>
-        ensures whole { (h : Header) (past : Trace) → Follows self.now h past → is_some self.now.report ≡ true
-            → OnOk result (Appends (K.held sink.old) (K.held sink.new) (report_text h past)) }
-        ensures part { (h : Header) (past : Trace) → Follows self.now h past → is_some self.now.report ≡ true
-            → OnErr result (AppendsPart (K.held sink.old) (K.held sink.new) (report_text h past)) }
-        ensures cause { HasCause (K.faults sink.old) (K.faults sink.new) result }
-    {
-        match &self.report {
-            Some(report) => report.put(sink),
-            None => Ok(()),
-        }
-    }
 }
 
 impl Taker for Follower {
     ghost took = { TakesOn };
 
-    /// Follows one more event, where no report is asked for and nothing has ended the check.
+    /// Follows one more event, where no account is asked for and nothing has ended the check.
     #[inline(always)]
     fn takes(&mut self, event: &Event) -> bool {
-        if self.report.is_some() || self.stop.is_some() {
+        if self.listener.is_some() || self.stop.is_some() {
             return false;
         }
         if let Some(answer) = feed(&mut self.checker, event) {
@@ -205,13 +192,21 @@ pub fn events_of(follower: Follower) -> u64
     follower.count()
 }
 
-/// Puts the text of the report, where there is one, of a follower of which there is no more use.
-pub fn put_report<K: Sink>(follower: Follower, sink: &mut K) -> Result<(), Failed>
-    ensures whole { (h : Header) (past : Trace) → Follows follower h past → is_some follower.report ≡ true
-        → OnOk result (Appends (K.held sink.old) (K.held sink.new) (report_text h past)) }
-    ensures part { (h : Header) (past : Trace) → Follows follower h past → is_some follower.report ≡ true
-        → OnErr result (AppendsPart (K.held sink.old) (K.held sink.new) (report_text h past)) }
-    ensures cause { HasCause (K.faults sink.old) (K.faults sink.new) result }
+/// Puts the account that was asked for, of a follower of which there is no more use.
+pub fn put_account<K: Sink>(follower: Follower, sink: &mut K) -> Result<(), AccountErr>
+    ensures put { (h : Header) (past : Trace) → Follows follower h past
+        → IfSome (asked_of follower)
+        (λ account. HasPut account h past (K.held sink.old) (K.held sink.new) result) }
+    ensures cause { HasPutCause (K.faults sink.old) (K.faults sink.new) result }
 {
-    follower.put(sink)
+    let Follower {
+        checker,
+        listener,
+        ..
+    } = follower;
+    drop(checker);
+    match listener {
+        Some(listener) => listener.put(sink),
+        None => Ok(()),
+    }
 }

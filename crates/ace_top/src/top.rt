@@ -4,12 +4,12 @@ ghost use Rattle.std.specs.Io.KnownBytes.{Appends, IsAtEnd};
 ghost use Rattle.ace_io.specs.Faults.{Rose};
 ghost use Rattle.ace_grammar.specs.Errors.{LeavesNothing};
 ghost use Rattle.ace_top.specs.Verdict.{ReadsSound};
-ghost use Rattle.ace_top.specs.Words.{IsCheck, IsReport, IsRun, IsTraceCommand, IsReadingCommand, IsCommand};
+ghost use Rattle.ace_top.specs.Words.{IsCheck, IsRun, IsSomeAccount, IsTraceCommand, IsReadingCommand, IsCommand};
 ghost use Rattle.ace_top.specs.Answer.{AnswersWords, BreaksOffWords};
 ghost use Rattle.ace_top.specs.Output.{AppendsParts};
 
 use crate::answer::Answer;
-use crate::check::{tell_report, tell_verdict};
+use crate::check::{tell_account, tell_verdict};
 use crate::generate::write_script;
 use crate::output::conclude;
 use crate::run::run_script;
@@ -38,11 +38,12 @@ pub fn ace<R: Threads + Wait + Sync, S: Source, K: Sink, E: Sink, G: Gate + Sync
         (K.held out.old) (K.held out.new) (E.held notes.old) (E.held notes.new) }
 
     // Where the status of a command that reads a trace is 0, the input was read to its end: where its bytes were told, they still
-    // are, and none is left. Where it is that of `check` or `report`, the trace has all that acceptance promises: it is coherent, its
+    // are, and none is left. Where it is that of `check`, `report` or `order`, the trace has all that acceptance promises: it is coherent, its
     // exclusive stores are exclusive, its barriers order, and its Syncs wait for all.
     ensures whole { IsTraceCommand words.now → result ≡ 0 → LeavesNothing (S.left input.old) (S.left input.new) }
     ensures script_whole { IsRun words.now → result ≡ 0 → IsAtEnd (S.left input.new) }
-    ensures sound { IsCheck words.now ⊎ IsReport words.now → result ≡ 0 → IfSome (S.left input.old) ReadsSound }
+    ensures sound { IsCheck words.now ⊎ IsSomeAccount words.now → result ≡ 0
+        → IfSome (S.left input.old) ReadsSound }
 
     // Where an output failed, each has a front of what such an answer gives it, and then the notes tell so if they can.
     ensures broken_off { result ≡ 5 → BreaksOffWords words.now (S.left input.old) (S.left input.new)
@@ -71,7 +72,7 @@ pub fn ace<R: Threads + Wait + Sync, S: Source, K: Sink, E: Sink, G: Gate + Sync
     };
     match command {
         Some(Command::Check) => tell_verdict(alloc, input, out, notes),
-        Some(Command::Report) => tell_report(alloc, input, out, notes),
+        Some(Command::Account { account }) => tell_account(alloc, input, out, notes, account),
         Some(Command::Convert { conversion }) => write_out(alloc, input, out, notes, conversion),
         Some(Command::Run) => run_script(rt, alloc, input, out, notes, gate),
         Some(Command::Gen { number }) => write_script(alloc, number, out, notes),

@@ -3,10 +3,12 @@ ghost use Rattle.std.specs.Prelude.{◌≡◌, ◌≢◌, ◌↔◌, ℕ, List, 
 ghost use Rattle.std.specs.String.{string_bytes};
 ghost use Rattle.ace_top.specs.Command.{Names};
 ghost use Rattle.ace_top.specs.Parse.{any_hyphen, starts_with_hyphen};
+ghost use Rattle.ace_account.specs.declared.listener.Account.{Account};
 ghost use Rattle.ace_convert.specs.declared.conversion.Conversion.{Conversion};
-ghost use Rattle.ace_top.specs.Words.{IsCommand, IsNumber, word_of};
+ghost use Rattle.ace_top.specs.Words.{IsCommand, IsNumber, account_word, word_of};
 
 use crate::parse::{Positionals, parse_words};
+use ace_account::Account;
 use ace_convert::Conversion;
 use ace_io::NoMemory;
 use itoa::Buffer;
@@ -17,8 +19,8 @@ use std::alloc::Global;
 pub enum Command {
     /// To tell the verdict on a trace.
     Check,
-    /// To report what an accepted trace did.
-    Report,
+    /// To give an account of an accepted trace.
+    Account { account: Account },
     /// To write what is made of a trace.
     Convert { conversion: Conversion },
     /// To run a script, and to write the trace of the run.
@@ -70,6 +72,18 @@ fn has_hyphen(words: &[String]) -> bool
     words.iter().any(|word| begins_with_hyphen(word.as_str()))
 }
 
+/// The account that a word names.
+fn account_of(text: &str) -> Option<Account>
+    ensures { MatchOption result ((account : Account) → text.now ≢ account_word account)
+        (λ account. text.now ≡ account_word account) }
+{
+    match text {
+        "report" => Some(Account::Report),
+        "order" => Some(Account::Order),
+        _ => None,
+    }
+}
+
 /// The conversion that a word names.
 fn conversion_of(text: &str) -> Option<Conversion>
     ensures { MatchOption result ((conversion : Conversion) → text.now ≢ word_of conversion)
@@ -92,11 +106,11 @@ fn one_word(text: &str) -> Option<Command>
 {
     match text {
         "check" => Some(Command::Check),
-        "report" => Some(Command::Report),
         "run" => Some(Command::Run),
-        _ => match conversion_of(text) {
-            Some(conversion) => Some(Command::Convert { conversion }),
-            None => None,
+        _ => match (account_of(text), conversion_of(text)) {
+            (Some(account), _) => Some(Command::Account { account }),
+            (None, Some(conversion)) => Some(Command::Convert { conversion }),
+            (None, None) => None,
         },
     }
 }

@@ -41,6 +41,8 @@ const STORED_REPORT: &str = "port 0 loads 0 stores 0 reads 0 writes 0\n\
     line 00000040 stores 1 value 11111111111111111111111111111111111111111111111111111111111111111111111111111111111111111111111111111111111111111111111111111111\n\
     load 8 1 00000040 0\nload 10 1 00000040 1\n";
 
+const STORED_ORDER: &str = "store 00000040 9\nplace 1 2\nplace 8 7\nplace 10 9\n";
+
 /// An opening memory, and an ACE-Lite port reads its line.
 const OPENED: &str = "ACE 2\nPORTS L\n\
     MEM 00000040 aaaaaaaaaaaaaaaaaaaaaaaaaaaaaaaaaaaaaaaaaaaaaaaaaaaaaaaaaaaaaaaaaaaaaaaaaaaaaaaaaaaaaaaaaaaaaaaaaaaaaaaaaaaaaaaaaaaaaaaaaaaaaaaa\n\
@@ -94,7 +96,7 @@ const OPENING: &str = "ACE 2\nPORTS AL\n\
     MEM 00000040 00112233445566778899aabbccddeeff00000000000000000000000000000000000000000000000000000000000000000000000000000000ffffffffffffffff\n\
     RK 1f UC\n";
 
-const USAGE: &str = "usage: ace check|run|show|migrate|pack|unpack|report|gen N|trial N\n";
+const USAGE: &str = "usage: ace check|run|show|migrate|pack|unpack|report|order|gen N|trial N\n";
 
 /// A trace, and what is wanted of a command over it: the status, and the texts of the two outputs.
 type Row = (&'static str, u8, &'static str, &'static str);
@@ -134,6 +136,17 @@ const REPORTS: [Row; 7] = [
     ),
     (STORED, 0, STORED_REPORT, ""),
     (OPENED, 0, OPENED_REPORT, ""),
+    (TWO_GRANTS, 1, "refused event 4: K12\n", ""),
+    (OPENING, 1, "refused event 2: K1\n", ""),
+    ("", 3, "", "malformed line 1: F1\n"),
+    ("ACE 1\nPORTS AA\nXX 0\n", 3, "", "malformed line 3: F2\n"),
+];
+
+/// Traces of whose reads each can be placed in one way.
+const ORDERS: [Row; 7] = [
+    (EMPTY, 0, "", ""),
+    (STORED, 0, STORED_ORDER, ""),
+    (OPENED, 0, "place 2 3\n", ""),
     (TWO_GRANTS, 1, "refused event 4: K12\n", ""),
     (OPENING, 1, "refused event 2: K1\n", ""),
     ("", 3, "", "malformed line 1: F1\n"),
@@ -310,6 +323,15 @@ fn reports_in_any_pieces(rt: HostRuntime) -> Result<(), Fail> {
 }
 
 #[test]
+fn orders_in_any_pieces(rt: HostRuntime) -> Result<(), Fail> {
+    for row in ORDERS {
+        assert!(rt; in_any_pieces(&rt, rt.alloc(), "order", &row)?, "{}", row.0);
+    }
+    assert!(rt; breaks_off(&rt, rt.alloc(), "order", STORED, STORED_ORDER)?);
+    Ok(())
+}
+
+#[test]
 fn shown_traces(rt: HostRuntime) -> Result<(), Fail> {
     for row in SHOWN {
         assert!(rt; in_any_pieces(&rt, rt.alloc(), "show", &row)?, "{}", row.0);
@@ -367,6 +389,7 @@ fn limit_of_lines(rt: HostRuntime) -> Result<(), Fail> {
         (4096, "check", 0, "accepted 24576\n", ""),
         (4097, "check", 6, "", "limit lines\n"),
         (4097, "report", 6, "", "limit lines\n"),
+        (4097, "order", 6, "", "limit lines\n"),
     ] {
         let text = reads_of(alloc, lines)?;
         let input = (text.as_slice(), 65536, [].as_slice());
@@ -388,7 +411,7 @@ type Call = (
     &'static str,
 );
 
-const CALLS: [Call; 13] = [
+const CALLS: [Call; 15] = [
     (&[], (99, 99), 2, "", USAGE),
     (&["check", "x"], (99, 99), 2, "", USAGE),
     (&["Check"], (99, 99), 2, "", USAGE),
@@ -397,6 +420,8 @@ const CALLS: [Call; 13] = [
     (&["check"], (99, 0), 0, "accepted 0\n", ""),
     (&["report"], (4, 99), 5, "port", "write fault\n"),
     (&["report", "report"], (99, 99), 2, "", USAGE),
+    (&["order", "1"], (99, 99), 2, "", USAGE),
+    (&["orders"], (99, 99), 2, "", USAGE),
     (&["pack", "1"], (99, 99), 2, "", USAGE),
     (&["packs"], (99, 99), 2, "", USAGE),
     (&["Unpack"], (99, 99), 2, "", USAGE),
@@ -422,6 +447,7 @@ fn faults_of_the_input(rt: HostRuntime) -> Result<(), Fail> {
     for (command, trace, take, out) in [
         ("check", SNOOPED_OUT, 2, ""),
         ("report", STORED, 5, ""),
+        ("order", STORED, 5, ""),
         (
             "show",
             SNOOPED_OUT,

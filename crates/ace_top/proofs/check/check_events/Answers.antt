@@ -21,7 +21,7 @@ events-preserved g c =
       few = then.few few;
       same_header = then.same_header ∙ next.same_header ∙ before.same_header;
       same_source = then.same_source ∙ next.same_source ∙ before.same_source;
-      same_reports = then.same_reports ∙ c.take.ensures.same_reports ∙ before.same_reports;
+      same_account = then.same_account ∙ c.take.ensures.same_account ∙ before.same_account;
       comes = λ follows. round_comes None _ _ _ _ _ _ _ _ _ _ _ _ _ _ (ap (λ (h : Header). h.version) before.same_header)
           (next.same_header ∙ before.same_header) (sym c.stop.ensures ∙ c.in_default.is) some.3 some.0 some.1 some.2 c.take.ensures
           (then.comes _ few) (before.comes follows);

@@ -1,8 +1,8 @@
-use Rattle.std.proofs.Common.{◌≡◌, ◌-◌, ◌≤◌, [], None, is_some}
+use Rattle.std.proofs.Common.{◌≡◌, ◌-◌, ◌≤◌, [], None}
 use Rattle.ace_grammar.specs.Reader.{source_of, unread, header_of, count_of, last_answer}
 use Rattle.ace_grammar.specs.Errors.{TakesFront}
 use Rattle.ace_grammar.specs.Reading.{most_events}
-use Rattle.ace_top.specs.Follow.{Follows, HasCome}
+use Rattle.ace_top.specs.Follow.{Follows, HasCome, asked_of}
 use Rattle.ace_top.proofs.check.check_events.Given as goal
 
 abbrev pub invariant-events : goal.invariant-events
@@ -11,7 +11,7 @@ invariant-events g l = record {
   few : count_of l.reader ≤ most_events;
   same_header : header_of l.reader ≡ header_of l.initial.reader;
   same_source : (source_of l.reader).ghost_name ≡ (source_of l.initial.reader).ghost_name;
-  same_reports : is_some l.follower.report ≡ is_some l.initial.follower.report;
+  same_account : asked_of l.follower ≡ asked_of l.initial.follower;
   comes : Follows l.initial.follower (header_of l.initial.reader) []
       → HasCome l.follower (count_of l.reader) (header_of l.initial.reader) (unread g.S.Source.left l.initial.reader) (unread g.S.Source.left l.reader);
   front : TakesFront (unread g.S.Source.left l.initial.reader) (unread g.S.Source.left l.reader);

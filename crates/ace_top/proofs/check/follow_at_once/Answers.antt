@@ -1,8 +1,8 @@
-use Rattle.ace_top.proofs.Handed.{all_come, all_reports, all_stops}
+use Rattle.ace_top.proofs.Handed.{all_come, all_accounts, all_stops}
 use Rattle.ace_top.proofs.check.follow_at_once.Goals as goal
 
-pub returns-then-is_brief-clause-same_reports : goal.returns-then-is_brief-clause-same_reports
-returns-then-is_brief-clause-same_reports g c = all_reports _ _ _ _ _ _ c.hands_all_over.ensures.taken
+pub returns-then-is_brief-clause-same_account : goal.returns-then-is_brief-clause-same_account
+returns-then-is_brief-clause-same_account g c = all_accounts _ _ _ _ _ _ c.hands_all_over.ensures.taken
 
 pub returns-then-is_brief-clause-stop : goal.returns-then-is_brief-clause-stop
 returns-then-is_brief-clause-stop g c was = all_stops _ _ _ _ _ _ c.hands_all_over.ensures.taken was

@@ -1,12 +1,12 @@
-use Rattle.std.proofs.Common.{None, ◌∙◌}
+use Rattle.std.proofs.Common.{None, ◌∙◌, arith}
 use Rattle.ace_top.proofs.follow.hear.Goals as goal
 
-pub returns-in-Ok-clause-reports : goal.returns-in-Ok-clause-reports
-returns-in-Ok-clause-reports c = λ h past s r accepted few.
+pub returns-in-Ok-clause-heard : goal.returns-in-Ok-clause-heard
+returns-in-Ok-clause-heard c = λ h past s l accepted few.
     let line = c.told_line-line.ensures h past (c.ports.ensures h past None s) in
-    let told = c.hear-told.ensures.stands h past (c.ports-2.ensures h past None s) line r (record {
+    let heard = c.hear-heard.ensures.stands h past (c.ports-2.ensures h past None s) line l (record {
       accepted = (accepted, (c.in-None.ensures.fine h past s).0);
       memory = λ l is. c.memory_at-memory.ensures h past None l s (line ∙ is);
-      few = few;
-    }) in
-    rw c.in-Ok.is at told
+      few = omega (arith, few);
+    }) few in
+    rw c.in-Ok.is at heard

@@ -1,4 +1,4 @@
-use Rattle.std.proofs.Common.{refl}
+use Rattle.std.proofs.Common.{ap, Some, arith}
 use Rattle.ace_top.proofs.Following.{alone_taken, both_follow}
 use Rattle.ace_top.proofs.follow.Follower.take.Goals as goal
 
@@ -7,11 +7,11 @@ returns-in-Some c =
     let heard = c.hear-self.ensures in
     record {
       fine = λ h past f. heard.fine h past f.checker;
-      follows = λ h past f few. both_follow _ _ _ h past _ f.accepted (heard.fine h past f.checker) (heard.stands h past f.checker few)
-          (heard.reports h past f.checker (rw c.in-Some.is at f.report) f.accepted few);
+      follows = λ h past f few. both_follow _ _ _ h past _ f.accepted (heard.fine h past f.checker) (heard.stands h past f.checker (omega (arith, few)))
+          (heard.heard h past f.checker (rw c.in-Some.is at f.listener) f.accepted few);
       stops = λ h past f. heard.stops h past f.checker;
       stop = heard.stop;
-      same_reports = rw c.in-Some.is refl;
+      same_account = rw c.in-Some.is (ap Some heard.same_account);
     }
 
 pub returns-in-None : goal.returns-in-None

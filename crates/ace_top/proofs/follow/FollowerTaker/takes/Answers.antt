@@ -15,6 +15,6 @@ returns-in_default-clause-took c is =
     let fed = c.in_default.ensures in
     let none = none_is c.args.self.now.stop (sym c.is_some-else-is_some.ensures ∙ c.if-is_some-2.false) in (
       none,
-      subst (λ o. HasTaken c.args.self.now c.args.event.now (record { checker = c.feed.new.checker; report = c.args.self.now.report; stop = o })) (sym none)
+      subst (λ o. HasTaken c.args.self.now c.args.event.now (record { checker = c.feed.new.checker; listener = c.args.self.now.listener; stop = o })) (sym none)
           (alone_taken _ _ _ None (none_is _ (sym c.is_some.ensures ∙ c.if-is_some.false)) fed.fine fed.stands fed.stops fed.stop),
     )

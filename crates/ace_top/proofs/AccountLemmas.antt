@@ -1,0 +1,116 @@
+-- What `report` and `order` answer.
+use Rattle.std.proofs.Common.{◌≡◌, ℕ, List, [], Option, None, Some, IfSome, reverse, refl, sym, subst, ap, inl, codes, ◌++◌, ◌∙◌, append-nil}
+use Rattle.std.proofs.lemmas.List.{reverse-reverse}
+use Rattle.std.specs.Io.KnownBytes.{Appends}
+use Rattle.std.proofs.KnownBytes.{Appends-nil}
+use Rattle.ace_account.specs.Accounts.{IsAccount}
+use Rattle.ace_account.specs.declared.listener.Account.{Account}
+use Rattle.ace_event.specs.declared.header.Header.{Header}
+use Rattle.ace_model.specs.Trace.{Trace}
+use Rattle.ace_top.specs.declared.answer.Answer.{Answer}
+use Rattle.ace_top.specs.declared.answer.Answer.TheVariants.{Refused, Reported, Malformed, ReadFault, LimitEvents, LimitLines, NoMemory}
+use Rattle.ace_top.specs.declared.follow.Follower.{Follower}
+use Rattle.ace_top.specs.declared.words.Command.TheVariants as command
+use Rattle.ace_top.specs.Answer.{Answers, BreaksOff, FitsAnswer}
+use Rattle.ace_top.specs.Follow.{HasFollowed}
+use Rattle.ace_convert.specs.Output.{AppendsPart}
+use Rattle.ace_top.specs.Output.{AppendsParts}
+use Rattle.ace_top.specs.Progress.{IsRefusal}
+use Rattle.ace_top.specs.Report.{ReportsTrace, IsReported}
+use Rattle.ace_top.specs.Texts.{status_of, out_text_of, notes_text_of}
+use Rattle.ace_top.specs.Verdict.{IsVerdict, ReadsSound}
+use Rattle.ace_top.proofs.Parts.{both_nothing}
+use Rattle.ace_top.proofs.Sound.{whole_sound}
+use Rattle.ace_top.proofs.WrittenLemmas.{alone}
+
+-- an account of the trace that was followed is one of the trace that was read
+reported : (account : Account) (told : Option (List ℕ)) (f : Follower) (w : HasFollowed told f) (text : List ℕ) → IsAccount account w.header w.past text
+    → IfSome told (λ bytes. ReportsTrace account bytes text)
+reported account None f w text is = tt
+reported account (Some bytes) f w text is =
+    (w.header, reverse w.past, (w.reads, w.unbroken), subst (λ (past : Trace). IsAccount account w.header past text) (sym (reverse-reverse w.past)) is)
+
+-- an account that was given
+pub account_answers : (account : Account) (told left : Option (List ℕ)) (f : Follower) (w : HasFollowed told f) (text : List ℕ) (status : ℕ) (out out' out'' notes notes' : Option (List ℕ))
+    → IsAccount account w.header w.past text → status ≡ status_of Reported → Appends out out' text → Appends out' out'' (out_text_of Reported) → Appends notes notes' (notes_text_of Reported)
+    → Answers (command.Account account) told left status out out'' notes notes'
+account_answers account told left f w text status out out' out'' notes notes' is same given more noted =
+    (Reported, text, tt, reported account told f w text is, same, alone out out' out'' text [] refl given more, noted)
+
+-- one that an output broke off behind its text
+pub account_breaks_after : (account : Account) (told left : Option (List ℕ)) (f : Follower) (w : HasFollowed told f) (text : List ℕ) (out out' out'' notes notes' : Option (List ℕ))
+    → IsAccount account w.header w.past text → Appends out out' text → AppendsPart out' out'' (out_text_of Reported) → AppendsParts notes notes' (notes_text_of Reported) (codes "write fault\n")
+    → BreaksOff (command.Account account) told left out out'' notes notes'
+account_breaks_after account told left f w text out out' out'' notes notes' is given (part, rest, cut, more) parts =
+    inl (
+      Reported,
+      text,
+      tt,
+      reported account told f w text is,
+      (text, [], sym (append-nil text), alone out out' out'' text part (both_nothing part rest (sym cut)).0 given more),
+      parts,
+    )
+
+-- one that the standard output broke off
+pub account_breaks_off : (account : Account) (told left : Option (List ℕ)) (f : Follower) (w : HasFollowed told f) (text : List ℕ) (out out' notes notes' : Option (List ℕ))
+    → IsAccount account w.header w.past text → AppendsPart out out' text → AppendsPart notes notes' (codes "write fault\n") → BreaksOff (command.Account account) told left out out' notes notes'
+account_breaks_off account told left f w text out out' notes notes' is part noted =
+    inl (Reported, text, tt, reported account told f w text is, part, (notes, ([], [], refl, Appends-nil notes), noted))
+
+-- a trace that isn't accepted has its verdict
+refused_text : (account : Account) (answer : Answer) → IsRefusal answer → FitsAnswer (command.Account account) answer (out_text_of answer)
+refused_text account (Refused index rule) r = refl
+refused_text account (Malformed line reason) r = refl
+refused_text account ReadFault r = refl
+refused_text account LimitEvents r = refl
+refused_text account LimitLines r = refl
+refused_text account NoMemory r = refl
+refused_text account answer r = absurd r
+
+refused : (account : Account) (bytes : List ℕ) (answer : Answer) → IsRefusal answer → IsVerdict bytes answer → IsReported account bytes answer (out_text_of answer)
+refused account bytes (Refused index rule) r v = (v, refl)
+refused account bytes (Malformed line reason) r v = (v, refl)
+refused account bytes ReadFault r v = (v, refl)
+refused account bytes LimitEvents r v = (v, refl)
+refused account bytes LimitLines r v = (v, refl)
+refused account bytes NoMemory r v = (v, refl)
+refused account bytes answer r v = absurd r
+
+pub refusal_answers : (account : Account) (told left : Option (List ℕ)) (answer : Answer) (status : ℕ) (out out' notes notes' : Option (List ℕ))
+    → IsRefusal answer → IfSome told (λ bytes. IsVerdict bytes answer) → status ≡ status_of answer → Appends out out' (out_text_of answer) → Appends notes notes' (notes_text_of answer)
+    → Answers (command.Account account) told left status out out' notes notes'
+refusal_answers account None left answer status out out' notes notes' r v s given noted = (answer, out_text_of answer, refused_text account answer r, tt, s, given, noted)
+refusal_answers account (Some bytes) left answer status out out' notes notes' r v s given noted =
+    (answer, out_text_of answer, refused_text account answer r, refused account bytes answer r v, s, given, noted)
+
+pub refusal_breaks_off : (account : Account) (told left : Option (List ℕ)) (answer : Answer) (out out' notes notes' : Option (List ℕ))
+    → IsRefusal answer → IfSome told (λ bytes. IsVerdict bytes answer) → AppendsPart out out' (out_text_of answer) → AppendsParts notes notes' (notes_text_of answer) (codes "write fault\n")
+    → BreaksOff (command.Account account) told left out out' notes notes'
+refusal_breaks_off account None left answer out out' notes notes' r v part parts = inl (answer, out_text_of answer, refused_text account answer r, tt, part, parts)
+refusal_breaks_off account (Some bytes) left answer out out' notes notes' r v part parts =
+    inl (answer, out_text_of answer, refused_text account answer r, refused account bytes answer r v, part, parts)
+
+-- there was no memory for the account, and nothing was given before
+verdict_free : (told : Option (List ℕ)) → IfSome told (λ bytes. IsVerdict bytes NoMemory)
+verdict_free None = tt
+verdict_free (Some bytes) = tt
+
+pub lack_answers : (account : Account) (told left : Option (List ℕ)) (status : ℕ) (out out' out'' notes notes' : Option (List ℕ))
+    → Appends out out' [] → status ≡ status_of NoMemory → Appends out' out'' (out_text_of NoMemory) → Appends notes notes' (notes_text_of NoMemory)
+    → Answers (command.Account account) told left status out out'' notes notes'
+lack_answers account told left status out out' out'' notes notes' none s given noted =
+    refusal_answers account told left NoMemory status out out'' notes notes' tt (verdict_free told) s (alone out out' out'' [] [] refl none given) noted
+
+pub lack_breaks_off : (account : Account) (told left : Option (List ℕ)) (out out' out'' notes notes' : Option (List ℕ))
+    → Appends out out' [] → AppendsPart out' out'' (out_text_of NoMemory) → AppendsParts notes notes' (notes_text_of NoMemory) (codes "write fault\n")
+    → BreaksOff (command.Account account) told left out out'' notes notes'
+lack_breaks_off account told left out out' out'' notes notes' none (part, rest, cut, more) parts =
+    refusal_breaks_off account told left NoMemory out out'' notes notes' tt (verdict_free told)
+    ([], [], refl, alone out out' out'' [] part (both_nothing part rest (sym cut)).0 none more) parts
+
+-- the trace that was reported has all that acceptance promises
+pub reported_sound : (told : Option (List ℕ)) (f : Follower) → HasFollowed told f → IfSome told ReadsSound
+reported_sound None f w = tt
+reported_sound (Some bytes) f w = whole_sound bytes w.header (reverse w.past) w.reads w.unbroken
+
+pub ruleset accounts = (reported_sound)
