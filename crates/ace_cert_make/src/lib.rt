@@ -10,7 +10,9 @@ mod reads;
 #[cfg(test)]
 mod tests;
 mod track;
+mod verified;
 mod whole;
 
 pub use maker::Maker;
+pub use verified::{a_made_certificate_is_right, verified_reads_follow};
 pub use whole::make;
