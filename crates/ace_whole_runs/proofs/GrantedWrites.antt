@@ -16,6 +16,7 @@ use Rattle.ace_runs.specs.Bursts.{is_kept, may_begin, may_serve}
 use Rattle.ace_runs.specs.LineSteps.{memory_write, response, write_burst}
 use Rattle.ace_runs.proofs.NeverStuck.Updates.UpdatesMove.{data-there}
 use Rattle.ace_engine.specs.Engines.{Home, IsLegal, numbers_of}
+use Rattle.ace_home.specs.Among.{all_ports}
 use Rattle.ace_home.specs.Home.{IsOf}
 use Rattle.ace_home.specs.Services.{first_kept}
 use Rattle.ace_home.proofs.Outstanding.{of-port}
@@ -39,7 +40,7 @@ module _ (plan : Plan) (past : Trace) (p : ℕ) (legal : IsLegal plan past) wher
     given line is kept =
         let m : Event = M x.port x.chan x.id line in
         let first : first_kept h past (write_burst h past x) ≡ Some m = ap (first_kept h past) is ∙ rw kept refl in
-        let after = response-kept-after plan past legal p x o m first in
+        let after = response-kept-after all_ports plan past legal p x o m first in
         subst (IsGiven h past) (sym is) (record { some = refl; few = refl; kept = and_from _ _ kept (and_from _ _ after refl); own = refl })
 
     written : IsGiven plan.header past (write_burst plan.header past s.of)

@@ -15,6 +15,7 @@ use Rattle.ace_engine.specs.Engines.{EngineKind, Home, IsLegal, Master, Order, U
 use Rattle.ace_engine.proofs.Heard.{legal-before}
 use Rattle.ace_fabric.specs.Runs.{Run, continued}
 use Rattle.ace_fabric.proofs.Continued.{longer-then}
+use Rattle.ace_home.specs.Among.{all_ports}
 use Rattle.ace_fabric.proofs.Taken.{no-kind-enabled, step-by-is, steps-after}
 use Rattle.ace_whole_runs.specs.HasStep.{HasStep}
 use Rattle.ace_whole_runs.specs.Runs.{IsRunOf}
@@ -36,7 +37,7 @@ engine-enabled plan past p t =
           | inl on ↦ (Home, on)
           | inr h ↦ elim (cases_Bool (is_enabled_by (numbers_of Order) plan past p)) [
             | inl on ↦ (Order, on)
-            | inr o ↦ let bad : false ≡ true = sym (no-kind-enabled plan past p m u h o) ∙ t in cc
+            | inr o ↦ let bad : false ≡ true = sym (no-kind-enabled all_ports plan past p m u h o) ∙ t in cc
           ]
         ]
       ]
