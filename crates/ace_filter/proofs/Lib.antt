@@ -13,3 +13,7 @@ pub mod Watched
 -- The sets, and their bits.
 pub mod SetSteps
 pub mod PortBits
+-- Which ports the steps of a filtered run snoop.
+pub mod KeptSnoops
+-- The trace of a run before and after a turn, and what a filter hears of it.
+pub mod Draining

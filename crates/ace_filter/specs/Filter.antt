@@ -1,5 +1,6 @@
 -- What a filter says of the trace that it heard.
-use Rattle.std.specs.Prelude.{ℕ, ◌≡◌, ◌<◌, ◌≤◌, ◌-◌, ◌^◌, true, List, length, slice_get, Some, None}
+use Rattle.std.specs.Prelude.{ℕ, ◌≡◌, ◌<◌, ◌≤◌, ◌-◌, ◌^◌, ◌==◌, Bool, true, List, length, slice_get, Some, None}
+use Rattle.std.specs.Int.{bit_at}
 use Rattle.ace_event.specs.Ports.{IsHeader}
 use Rattle.ace_event.specs.declared.event.Event.{Event}
 use Rattle.ace_event.specs.declared.header.Header.{Header}
@@ -10,11 +11,15 @@ use Rattle.ace_model.specs.Transactions.{issued}
 use Rattle.ace_filter.specs.declared.filter.Filter.{Filter}
 use Rattle.ace_filter.specs.declared.port.PortWatch.{PortWatch}
 use Rattle.ace_filter.specs.Port.{HasRoom, PortStands}
-use Rattle.ace_filter.specs.Sets.{SetsStand}
+use Rattle.ace_filter.specs.Sets.{SetsStand, set_of}
 
 -- for how many lines there is room
 abbrev pub room_of : Filter → ℕ
 room_of s = s.room
+
+-- the port is one of those of the line
+abbrev pub is_set : Filter → ℕ → ℕ → Bool
+is_set s line p = bit_at (set_of s.sets line) p == 1
 
 -- what is kept of the port stands, with room for so many lines
 pub record IsWatched (lines : ℕ) (past : Trace) (p : ℕ) (s : PortWatch) : Type 0 where

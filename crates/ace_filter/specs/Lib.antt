@@ -4,3 +4,4 @@ pub mod Change
 pub mod Sets
 pub mod Port
 pub mod Filter
+pub mod Drain

@@ -15,7 +15,7 @@ use crate::port::{Change, PortWatch};
 use crate::sets::LineSets;
 use ace_event::Event;
 use ace_io::NoMemory;
-use ace_model::port_of;
+use ace_model::{Among, port_of};
 use std::alloc::Global;
 
 /// The ports of a header are at most so many.
@@ -59,6 +59,17 @@ fn hear_at(ports: &mut Vec<PortWatch>, port: u8, event: &Event) -> Option<Change
     match ports.get_mut(usize::from(port)) {
         Some(kept) => kept.hear(event),
         None => None,
+    }
+}
+
+impl Among for Filter {
+    ghost use Rattle.ace_filter.specs.Filter.{is_set};
+
+    ghost has = { is_set };
+
+    fn may(&self, line: u32) -> u32 {
+        let sets = &self.sets;
+        sets.of(line)
     }
 }
 

@@ -2,5 +2,7 @@
 #![tactic(auto, unfolding(ace_codes::specs::Reads::ar_kind_of, ace_codes::specs::Snoops::ac_kind_of, ace_codes::specs::Writes::aw_kind_of))]
 
 #[cfg(test)]
+mod drain;
+#[cfg(test)]
 mod filter;
 pub mod rows;
