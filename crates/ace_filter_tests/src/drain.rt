@@ -12,28 +12,25 @@ use std::test::Fail;
 const SCRIPT: &[u8] =
     b"ACE SCRIPT 1\nPORTS AAA\nCACHE 1\nPOLICY keep\n0 ld 00000040 0\n1 ld 00000080 0\n";
 
-/// For how many lines the filter has room: as many as the script has operations.
-const LINES: u32 = 2;
-
-/// The run of the script, before its first step.
-fn start(alloc: Global) -> Result<System, Fail> {
-    let plan = Plan::read(alloc, &mut HonestSource::new(SCRIPT))?;
-    let system = System::start(alloc, &plan);
-    drop(plan);
-    Ok(system?)
-}
+/// For how many lines the filter has room: no plan has more operations.
+const LINES: u32 = 4096;
 
 /// The run of the script, drained.
 fn drained(alloc: Global) -> Result<System, Fail> {
-    let mut system = start(alloc)?;
+    let plan = Plan::read(alloc, &mut HonestSource::new(SCRIPT))?;
+    let mut system = System::start(alloc, &plan)?;
+    drop(plan);
     system.drain();
     Ok(system)
 }
 
 /// The run of the script, drained by a filter.
 fn filtered(alloc: Global) -> Result<System, Fail> {
+    let plan = Plan::read(alloc, &mut HonestSource::new(SCRIPT))?;
     let mut filter = Filter::new(alloc, LINES)?;
-    let mut system = start(alloc)?;
+    let mut system = System::start(alloc, &plan)?;
+    drop(plan);
+    system.keeps();
     drain_filtered(&mut system, &mut filter);
     drop(filter);
     Ok(system)
@@ -42,10 +39,10 @@ fn filtered(alloc: Global) -> Result<System, Fail> {
 /// How many snoops the run has, if it is done.
 fn snoops(run: Result<System, Fail>) -> Result<Option<usize>, Fail> {
     let system = run?;
-    let mut count = 0;
+    let mut count = 0usize;
     for event in system.trace() {
         if matches!(event, Event::Ac { .. }) {
-            count += 1;
+            count = count.saturating_add(1);
         }
     }
     let done = system.done();
