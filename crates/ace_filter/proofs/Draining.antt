@@ -54,7 +54,8 @@ first-events before after burst past old new =
     let parts = length-append before burst in
     (ap reverse (ap (take (length before)) whole ∙ take-append_seam before burst) ∙ old, omega (arith, len, parts))
 
-kept-both : (h : Header) (past : Trace) (first next : List Event) → are_kept_snoops h past first ≡ true → are_kept_snoops h (onto first past) next ≡ true
+-- events after others, each of which is such at its point
+pub kept-both : (h : Header) (past : Trace) (first next : List Event) → are_kept_snoops h past first ≡ true → are_kept_snoops h (onto first past) next ≡ true
     → are_kept_snoops h past (first ++ next) ≡ true
 kept-both h past [] next f n = n
 kept-both h past (e ∷ first) next f n =
@@ -89,7 +90,7 @@ heard-next old new plan events i d low legal room stands hears =
 
 -- ---- holders -----------------------------------------------------------------------------------------
 
-kept-now : (h : Header) (past : Trace) → IsAccepted h past → HoldersAreKept h past
+pub kept-now : (h : Header) (past : Trace) → IsAccepted h past → HoldersAreKept h past
 kept-now h [] a = accepted_keeps_holders h [] a
 kept-now h (e ∷ past) a = (accepted_keeps_holders h (e ∷ past) a).1
 
