@@ -124,3 +124,12 @@ pub kept-turn : (s : Filter) (a b d : Run) (first next : List Event) (p : ℕ) �
     → (d ≡ continued (first ++ next) a) × (are_kept_snoops a.plan.header a.past (first ++ next) ≡ true)
 kept-turn s a b d first next p stands legal one kept step two =
     kept-rounds a b d first next one kept two (step-kept-snoops (is_set s) b.plan b.past p next legal (λ l q. sym (stands.sets.sets l q)) step)
+
+-- a run that was drained from its start
+pub kept-from-start : (a b : Run) (events : List Event) → a.past ≡ [] → b ≡ continued events a → are_kept_snoops a.plan.header a.past events ≡ true
+    → are_kept_snoops b.plan.header [] (reverse b.past) ≡ true
+kept-from-start a b events start is kept =
+    let past : b.past ≡ onto events [] = ap (λ (r : Run). r.past) is ∙ ap (onto events) start in
+    let in_order : reverse b.past ≡ events = ap reverse (past ∙ reversed events) ∙ reverse-reverse events in
+    let header : b.plan.header ≡ a.plan.header = ap (λ (r : Run). r.plan.header) is in
+    rw header (rw in_order (subst (λ (t : Trace). are_kept_snoops a.plan.header t events ≡ true) start kept))
