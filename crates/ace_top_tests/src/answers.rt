@@ -590,7 +590,7 @@ fn scripts_broken_off(rt: HostRuntime) -> Result<(), Fail> {
 }
 
 /// Words that name no command.
-const NO_COMMANDS: [&[&str]; 35] = [
+const NO_COMMANDS: [&[&str]; 43] = [
     &["gen"],
     &["gen", ""],
     &["gen", "x"],
@@ -610,6 +610,14 @@ const NO_COMMANDS: [&[&str]; 35] = [
     &["1", "gen"],
     &["check", "1"],
     &["run", "1"],
+    &["run", "x"],
+    &["run", "Filter"],
+    &["run", "filter "],
+    &["run", "filter", "x"],
+    &["run", "filter", "filter"],
+    &["run", "run"],
+    &["filter"],
+    &["filter", "run"],
     &["trial"],
     &["trial", "01"],
     &["trial", "1", "1"],
