@@ -33,7 +33,7 @@ pub fn ace<R: Threads + Wait + Sync, S: Source, K: Sink, E: Sink, G: Gate + Sync
     gate: &G,
 ) -> u8
     // Where no output failed, the status and the texts are those of an answer to the words and the input. So a run writes the trace of a
-    // run of the whole script, however its threads come to their turns.
+    // run of the whole script, however its threads come to their turns; with a filter each of its snoops of a line goes to a port that may hold it.
     ensures answer { result ≢ 5 → AnswersWords words.now (S.left input.old) (S.left input.new) result
         (K.held out.old) (K.held out.new) (E.held notes.old) (E.held notes.new) }
 

@@ -211,7 +211,7 @@ fn runs_of_scripts(rt: HostRuntime) -> Result<(), Fail> {
 const TWO_LINES: &str = "ACE SCRIPT 1\nPORTS AAA\nCACHE 1\nPOLICY keep\n\
     0 ld 00000040 0\n1 ld 00000080 0\n";
 
-/// Port 1 stores to the line that port 0 holds; ports 2 and 3 never hold it.
+/// Two ports store to one line, which the two others never hold.
 const ONE_HOLDER: &str = "ACE SCRIPT 1\nPORTS AAAA\nCACHE 1\nPOLICY keep\n\
     0 st 00000040 0 11111111111111111111111111111111\n\
     1 st 00000040 1 22222222222222222222222222222222\n";
