@@ -6,6 +6,7 @@ ghost use Rattle.ace_event.specs.Ports.{IsHeader};
 ghost use Rattle.ace_event.specs.Range.{IsAddress};
 ghost use Rattle.ace_event.specs.Text.{events_text, trace_text};
 ghost use Rattle.ace_io.specs.Faults.{HasCause};
+ghost use Rattle.ace_fabric.specs.System.{plan_of};
 ghost use Rattle.ace_runs.specs.Follows.{Done};
 ghost use Rattle.ace_runs.specs.Ranges.{FitsTypes, IsWritable};
 ghost use Rattle.ace_script.specs.Errors.{HasNoPlan};
