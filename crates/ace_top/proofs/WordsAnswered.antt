@@ -121,10 +121,12 @@ two_words words text number other (word, are, is) (inr (KeptPorts, one)) =
     other cc
 
 pub gen_reads_nothing : (words : List (String Global)) (number : ℕ) → IsGen words number → ¬ IsReadingCommand words
-gen_reads_nothing words number n = two_words words (codes "gen") number (λ same. absurd cc) n
+gen_reads_nothing words number n =
+    two_words words (codes "gen") number (λ same. let e : ◌≡◌ {A = ℕ} 103 114 = ap (λ text. first_letter (text ∷ [])) same in absurd (omega (arith, e))) n
 
 pub trial_reads_nothing : (words : List (String Global)) (number : ℕ) → IsTrial words number → ¬ IsReadingCommand words
-trial_reads_nothing words number n = two_words words (codes "trial") number (λ same. absurd cc) n
+trial_reads_nothing words number n =
+    two_words words (codes "trial") number (λ same. let e : ◌≡◌ {A = ℕ} 116 114 = ap (λ text. first_letter (text ∷ [])) same in absurd (omega (arith, e))) n
 
 pub ruleset words_answered = (
   words_carried,

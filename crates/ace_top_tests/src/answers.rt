@@ -96,7 +96,8 @@ const OPENING: &str = "ACE 2\nPORTS AL\n\
     MEM 00000040 00112233445566778899aabbccddeeff00000000000000000000000000000000000000000000000000000000000000000000000000000000ffffffffffffffff\n\
     RK 1f UC\n";
 
-const USAGE: &str = "usage: ace check|run [filter]|show|migrate|pack|unpack|report|order|gen N|trial N\n";
+const USAGE: &str =
+    "usage: ace check|run [filter]|show|migrate|pack|unpack|report|order|gen N|trial N\n";
 
 /// A trace, and what is wanted of a command over it: the status, and the texts of the two outputs.
 type Row = (&'static str, u8, &'static str, &'static str);

@@ -44,6 +44,7 @@ const MANY: &str = "ACE SCRIPT 1\nPORTS AAAL\nCACHE 2\nPOLICY mixed 000000000000
 
 /// The words of the two kinds of run: any port is snooped for a line, or only those that a snoop filter has for it.
 const RUN: &[&str] = &["run"];
+
 const RUN_FILTER: &[&str] = &["run", "filter"];
 
 /// A run of the script by these words: its trace.
