@@ -54,7 +54,8 @@ first-events before after burst past old new =
     let parts = length-append before burst in
     (ap reverse (ap (take (length before)) whole ∙ take-append_seam before burst) ∙ old, omega (arith, len, parts))
 
-kept-both : (h : Header) (past : Trace) (first next : List Event) → are_kept_snoops h past first ≡ true → are_kept_snoops h (onto first past) next ≡ true
+-- events after others, each of which is such at its point
+pub kept-both : (h : Header) (past : Trace) (first next : List Event) → are_kept_snoops h past first ≡ true → are_kept_snoops h (onto first past) next ≡ true
     → are_kept_snoops h past (first ++ next) ≡ true
 kept-both h past [] next f n = n
 kept-both h past (e ∷ first) next f n =
@@ -89,7 +90,7 @@ heard-next old new plan events i d low legal room stands hears =
 
 -- ---- holders -----------------------------------------------------------------------------------------
 
-kept-now : (h : Header) (past : Trace) → IsAccepted h past → HoldersAreKept h past
+pub kept-now : (h : Header) (past : Trace) → IsAccepted h past → HoldersAreKept h past
 kept-now h [] a = accepted_keeps_holders h [] a
 kept-now h (e ∷ past) a = (accepted_keeps_holders h (e ∷ past) a).1
 
@@ -123,3 +124,12 @@ pub kept-turn : (s : Filter) (a b d : Run) (first next : List Event) (p : ℕ) �
     → (d ≡ continued (first ++ next) a) × (are_kept_snoops a.plan.header a.past (first ++ next) ≡ true)
 kept-turn s a b d first next p stands legal one kept step two =
     kept-rounds a b d first next one kept two (step-kept-snoops (is_set s) b.plan b.past p next legal (λ l q. sym (stands.sets.sets l q)) step)
+
+-- a run that was drained from its start
+pub kept-from-start : (a b : Run) (events : List Event) → a.past ≡ [] → b ≡ continued events a → are_kept_snoops a.plan.header a.past events ≡ true
+    → are_kept_snoops b.plan.header [] (reverse b.past) ≡ true
+kept-from-start a b events start is kept =
+    let past : b.past ≡ onto events [] = ap (λ (r : Run). r.past) is ∙ ap (onto events) start in
+    let in_order : reverse b.past ≡ events = ap reverse (past ∙ reversed events) ∙ reverse-reverse events in
+    let header : b.plan.header ≡ a.plan.header = ap (λ (r : Run). r.plan.header) is in
+    rw header (rw in_order (subst (λ (t : Trace). are_kept_snoops a.plan.header t events ≡ true) start kept))

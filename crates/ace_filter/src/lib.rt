@@ -6,7 +6,9 @@ mod filter;
 mod lines;
 mod port;
 mod queue;
+mod run;
 mod sets;
 
 pub use drain::drain_filtered;
 pub use filter::Filter;
+pub use run::run_filtered;

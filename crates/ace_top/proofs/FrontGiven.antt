@@ -46,7 +46,7 @@ fault_given Check bytes left last due text whole settled d f a b = nothing_given
 fault_given (Account account) bytes left last due text whole settled d f a b = nothing_given text whole f
 fault_given (Convert conversion) bytes left last due text whole settled d f a b = fault_written conversion bytes left last due text whole settled d b a
 fault_given (Gen number) bytes left last due text whole settled d f a b = absurd a
-fault_given Run bytes left last due text whole settled d f a b = nothing_given text whole f
+fault_given (Run snooping) bytes left last due text whole settled d f a b = nothing_given text whole f
 fault_given (Trial number) bytes left last due text whole settled d f a b = nothing_given text whole f
 
 -- where there was no memory
@@ -56,7 +56,7 @@ no_memory_given Check bytes left text whole f a = nothing_given text whole f
 no_memory_given (Account account) bytes left text whole f a = nothing_given text whole f
 no_memory_given (Convert conversion) bytes left text whole f a = nothing_given text whole f
 no_memory_given (Gen number) bytes left text whole f a = nothing_given text whole a
-no_memory_given Run bytes left text whole f a = nothing_given text whole f
+no_memory_given (Run snooping) bytes left text whole f a = nothing_given text whole f
 no_memory_given (Trial number) bytes left text whole f a = nothing_given text whole f
 
 due_or_fault : (answer : Answer) → (answer ≡ ReadFault) ⊎ ((answer ≡ NoMemory) ⊎ IsDue answer)

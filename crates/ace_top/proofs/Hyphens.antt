@@ -7,6 +7,7 @@ use Rattle.std.proofs.lemmas.Fmt.{decimal_by_steps}
 use Rattle.clap.proofs.WalkLemmas.{list_any-map}
 use Rattle.ace_account.specs.declared.listener.Account.TheVariants.{Report, Order}
 use Rattle.ace_convert.specs.declared.conversion.Conversion.TheVariants.{Show, Migrate, Pack, Unpack}
+use Rattle.ace_top.specs.declared.words.Snooping.TheVariants.{AllPorts, KeptPorts}
 use Rattle.ace_top.specs.Parse.{any_hyphen, starts_with_hyphen}
 use Rattle.ace_top.specs.Words.{IsCommand, IsNumbered, IsWord}
 
@@ -38,7 +39,8 @@ command_clear words (inl (inl (inr (inr (Show, e))))) = word_clear words _ refl 
 command_clear words (inl (inl (inr (inr (Migrate, e))))) = word_clear words _ refl e
 command_clear words (inl (inl (inr (inr (Pack, e))))) = word_clear words _ refl e
 command_clear words (inl (inl (inr (inr (Unpack, e))))) = word_clear words _ refl e
-command_clear words (inl (inr e)) = word_clear words _ refl e
+command_clear words (inl (inr (AllPorts, e))) = word_clear words _ refl e
+command_clear words (inl (inr (KeptPorts, e))) = any_in_texts words ∙ ap (list_any starts_with_hyphen) e
 command_clear words (inr (n, inl e)) = numbered_clear words _ n refl e
 command_clear words (inr (n, inr e)) = numbered_clear words _ n refl e
 

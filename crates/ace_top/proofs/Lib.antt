@@ -8,6 +8,7 @@ pub mod GenerateLemmas
 pub mod GeneratedRight
 pub mod Handed
 pub mod Hyphens
+pub mod KeptRuns
 pub mod Numbers
 pub mod OneScript
 pub mod OneAnswer

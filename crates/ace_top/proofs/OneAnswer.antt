@@ -260,7 +260,7 @@ one_answer (Gen number) bytes left last answer other text more settled d o f g s
     let p = generated_due number answer text d s in
     let q = generated_due number other more o t in
     (p.0 ∙ sym q.0, p.1 ∙ sym q.1)
-one_answer Run bytes left last answer other text more settled d o f g s t = one_unread bytes answer other text more settled d o f g s t
+one_answer (Run snooping) bytes left last answer other text more settled d o f g s t = one_unread snooping bytes answer other text more settled d o f g s t
 one_answer (Trial number) bytes left last answer other text more settled d o f g s t = absurd settled
 
 fits_written : (conversion : Conversion) (answer : Answer) (text : List ℕ) → IsDue answer → FitsAnswer (Convert conversion) answer text
@@ -281,5 +281,5 @@ some_answer (Convert conversion) bytes left can =
     let w = some_written conversion bytes left can in
     (w.0, w.1, w.2, fits_written conversion w.0 w.1 w.2, w.3)
 some_answer (Gen number) bytes left can = (Generated, script_of number, tt, tt, refl)
-some_answer Run bytes left can = some_ran bytes
+some_answer (Run snooping) bytes left can = some_ran snooping bytes
 some_answer (Trial number) bytes left can = some_tried number

@@ -19,7 +19,7 @@ tried_status number answer d t = absurd t
 pub one_status : (command : Command) (bytes : List ℕ) (left last : Option (List ℕ)) (answer other : Answer) (text more : List ℕ)
     → IsDue answer → IsDue other → FitsAnswer command answer text → FitsAnswer command other more
     → IsAnswer command (Some bytes) left answer text → IsAnswer command (Some bytes) last other more → status_of answer ≡ status_of other
-one_status Run bytes left last answer other text more d o f g a b = ap status_of (one_ran bytes answer other text more d o a b)
+one_status (Run snooping) bytes left last answer other text more d o f g a b = ap status_of (one_ran snooping bytes answer other text more d o a b)
 one_status (Trial number) bytes left last answer other text more d o f g a b = tried_status number answer d a ∙ sym (tried_status number other o b)
 one_status (Convert conversion) bytes left last answer other text more d o f g a b = ap status_of (one_written conversion bytes left last answer other text more d o a b).0
 one_status (Account account) bytes left last answer other text more d o f g a b = ap status_of (one_told account bytes answer other text more d o a b)

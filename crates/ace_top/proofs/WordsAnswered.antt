@@ -9,6 +9,8 @@ use Rattle.ace_convert.specs.declared.conversion.Conversion.TheVariants.{Show, M
 use Rattle.ace_top.specs.declared.words.Command.{Command}
 use Rattle.ace_top.specs.declared.words.Command.TheVariants as command
 use Rattle.ace_top.specs.declared.words.Command.TheVariants.{Convert}
+use Rattle.ace_top.specs.declared.words.Snooping.{Snooping}
+use Rattle.ace_top.specs.declared.words.Snooping.TheVariants.{AllPorts, KeptPorts}
 use Rattle.ace_top.specs.Answer.{CarriesOut, AnswersWords, BreaksOffWords}
 use Rattle.ace_top.specs.Command.{Names}
 use Rattle.ace_top.proofs.Parts.{nothing_appended}
@@ -16,7 +18,7 @@ use Rattle.ace_top.specs.declared.answer.Answer.TheVariants.{NoMemory, Usage}
 use Rattle.ace_convert.specs.Output.{AppendsPart}
 use Rattle.ace_top.specs.Output.{AppendsParts}
 use Rattle.ace_top.specs.Texts.{notes_text_of}
-use Rattle.ace_top.specs.Words.{IsCheck, IsAccount, IsSomeAccount, IsConvert, IsRun, IsGen, IsNumbered, IsTrial, IsTraceCommand, IsReadingCommand, IsCommand, IsNumber, IsWord, account_word, word_of}
+use Rattle.ace_top.specs.Words.{IsCheck, IsAccount, IsSomeAccount, IsConvert, IsRun, IsSomeRun, IsGen, IsNumbered, IsTrial, IsTraceCommand, IsReadingCommand, IsCommand, IsNumber, IsWord, account_word, word_of}
 
 pub words_carried : (words : List (String Global)) (command : Command) (input left : Option (List ℕ)) (status : ℕ) (out out' notes notes' : Option (List ℕ)) (faults faults' : ℕ)
     → CarriesOut command input left status out out' notes notes' faults faults' → Names words command → status ≢ 5 → AnswersWords words input left status out out' notes notes'
@@ -54,8 +56,11 @@ is_trace_command words n = inl (inl n)
 pub reads_trace : (words : List (String Global)) → IsTraceCommand words → IsReadingCommand words
 reads_trace words n = inl n
 
-pub is_run : (words : List (String Global)) → IsRun words → IsReadingCommand words
-is_run words n = inr n
+pub is_run : (words : List (String Global)) (snooping : Snooping) → IsRun words snooping → IsSomeRun words
+is_run words snooping n = (snooping, n)
+
+pub is_some_run : (words : List (String Global)) → IsSomeRun words → IsReadingCommand words
+is_some_run words n = inr n
 
 pub is_reading : (words : List (String Global)) → IsReadingCommand words → IsCommand words
 is_reading words n = inl n
@@ -67,14 +72,24 @@ pub is_trial : (words : List (String Global)) (number : ℕ) → IsTrial words n
 is_trial words number n = inr (number, inr n)
 
 -- the word `run` names no trace command
-pub runs_no_trace : (words : List (String Global)) → IsRun words → ¬ IsTraceCommand words
-runs_no_trace words n (inl one) = absurd cc
-runs_no_trace words n (inr (inl (Report, one))) = absurd cc
-runs_no_trace words n (inr (inl (Order, one))) = absurd cc
-runs_no_trace words n (inr (inr (Show, one))) = absurd cc
-runs_no_trace words n (inr (inr (Migrate, one))) = absurd cc
-runs_no_trace words n (inr (inr (Pack, one))) = absurd cc
-runs_no_trace words n (inr (inr (Unpack, one))) = absurd cc
+one_run : (words : List (String Global)) → IsRun words AllPorts → ¬ IsTraceCommand words
+one_run words n (inl one) = absurd cc
+one_run words n (inr (inl (Report, one))) = absurd cc
+one_run words n (inr (inl (Order, one))) = absurd cc
+one_run words n (inr (inr (Show, one))) = absurd cc
+one_run words n (inr (inr (Migrate, one))) = absurd cc
+one_run words n (inr (inr (Pack, one))) = absurd cc
+one_run words n (inr (inr (Unpack, one))) = absurd cc
+
+-- nor do the two words `run filter`
+filtered_run : (words : List (String Global)) → IsRun words KeptPorts → ¬ IsTraceCommand words
+filtered_run words n (inl one) = absurd cc
+filtered_run words n (inr (inl (account, one))) = absurd cc
+filtered_run words n (inr (inr (conversion, one))) = absurd cc
+
+pub runs_no_trace : (words : List (String Global)) → IsSomeRun words → ¬ IsTraceCommand words
+runs_no_trace words (AllPorts, n) = one_run words n
+runs_no_trace words (KeptPorts, n) = filtered_run words n
 
 abbrev first_letter : List (List ℕ) → ℕ
 first_letter ((letter ∷ text) ∷ words) = letter
@@ -95,18 +110,23 @@ converts_no_verdict words Unpack n (inl one) = absurd cc
 converts_no_verdict words Unpack n (inr (Report, one)) = let e : ◌≡◌ {A = ℕ} 117 114 = ap first_letter (sym n ∙ one) in absurd (omega (arith, e))
 converts_no_verdict words Unpack n (inr (Order, one)) = absurd cc
 
--- nor do two words name a command that reads its input
-two_words : (words : List (String Global)) (text : List ℕ) (number : ℕ) → IsNumbered words text number → ¬ IsReadingCommand words
-two_words words text number (word, are, is) (inl (inl one)) = absurd cc
-two_words words text number (word, are, is) (inl (inr (inl (account, one)))) = absurd cc
-two_words words text number (word, are, is) (inl (inr (inr (conversion, one)))) = absurd cc
-two_words words text number (word, are, is) (inr one) = absurd cc
+-- nor does a word with a number name a command that reads its input
+two_words : (words : List (String Global)) (text : List ℕ) (number : ℕ) → text ≢ codes "run" → IsNumbered words text number → ¬ IsReadingCommand words
+two_words words text number other (word, are, is) (inl (inl one)) = absurd cc
+two_words words text number other (word, are, is) (inl (inr (inl (account, one)))) = absurd cc
+two_words words text number other (word, are, is) (inl (inr (inr (conversion, one)))) = absurd cc
+two_words words text number other (word, are, is) (inr (AllPorts, one)) = absurd cc
+two_words words text number other (word, are, is) (inr (KeptPorts, one)) =
+    let e : text ∷ word ∷ [] ≡ codes "run" ∷ codes "filter" ∷ [] = sym are ∙ one in
+    other cc
 
 pub gen_reads_nothing : (words : List (String Global)) (number : ℕ) → IsGen words number → ¬ IsReadingCommand words
-gen_reads_nothing words number n = two_words words (codes "gen") number n
+gen_reads_nothing words number n =
+    two_words words (codes "gen") number (λ same. let e : ◌≡◌ {A = ℕ} 103 114 = ap (λ text. first_letter (text ∷ [])) same in absurd (omega (arith, e))) n
 
 pub trial_reads_nothing : (words : List (String Global)) (number : ℕ) → IsTrial words number → ¬ IsReadingCommand words
-trial_reads_nothing words number n = two_words words (codes "trial") number n
+trial_reads_nothing words number n =
+    two_words words (codes "trial") number (λ same. let e : ◌≡◌ {A = ℕ} 116 114 = ap (λ text. first_letter (text ∷ [])) same in absurd (omega (arith, e))) n
 
 pub ruleset words_answered = (
   words_carried,
@@ -117,6 +137,7 @@ pub ruleset words_answered = (
   is_some_account,
   is_convert,
   is_run,
+  is_some_run,
   is_trace_command,
   reads_trace,
   is_reading,
@@ -139,7 +160,8 @@ pub names_none : (words : List (String Global)) (text : List ℕ) → map string
 names_none words text are check run account none (inl (inl (inl one))) = check (same_word words text (codes "check") are one)
 names_none words text are check run account none (inl (inl (inr (inl (a, one))))) = account a (same_word words text (account_word a) are one)
 names_none words text are check run account none (inl (inl (inr (inr (conversion, one))))) = none conversion (same_word words text (word_of conversion) are one)
-names_none words text are check run account none (inl (inr one)) = run (same_word words text (codes "run") are one)
+names_none words text are check run account none (inl (inr (AllPorts, one))) = run (same_word words text (codes "run") are one)
+names_none words text are check run account none (inl (inr (KeptPorts, one))) = absurd cc
 names_none words text are check run account none (inr (number, inl (word, two, is))) = absurd cc
 names_none words text are check run account none (inr (number, inr (word, two, is))) = absurd cc
 
@@ -151,19 +173,25 @@ pub names_conversion : (words : List (String Global)) (text : List ℕ) (convers
     → Names words (Convert conversion)
 names_conversion words text conversion are is = are ∙ ap (λ t. t ∷ []) is
 
--- two words name a command only with a number
+-- two words name a command only with a number, or where they are those of a run with a filter
 pub names_no_two : (words : List (String Global)) (text word : List ℕ) → map string_bytes words ≡ text ∷ word ∷ []
+    → (text ≡ codes "run" → word ≢ codes "filter")
     → ((number : ℕ) → IsNumber word number → (text ≢ codes "gen") × (text ≢ codes "trial")) → ¬ IsCommand words
-names_no_two words text word are none (inl (inl (inl one))) = absurd cc
-names_no_two words text word are none (inl (inl (inr (inl (account, one))))) = absurd cc
-names_no_two words text word are none (inl (inl (inr (inr (conversion, one))))) = absurd cc
-names_no_two words text word are none (inl (inr one)) = absurd cc
-names_no_two words text word are none (inr (number, inl (other, two, is))) =
+names_no_two words text word are filter none (inl (inl (inl one))) = absurd cc
+names_no_two words text word are filter none (inl (inl (inr (inl (account, one))))) = absurd cc
+names_no_two words text word are filter none (inl (inl (inr (inr (conversion, one))))) = absurd cc
+names_no_two words text word are filter none (inl (inr (AllPorts, one))) = absurd cc
+names_no_two words text word are filter none (inl (inr (KeptPorts, one))) =
+    let e : text ∷ word ∷ [] ≡ codes "run" ∷ codes "filter" ∷ [] = sym are ∙ one in
+    let t : text ≡ codes "run" = cc in
+    let w : word ≡ codes "filter" = cc in
+    filter t w
+names_no_two words text word are filter none (inr (number, inl (other, two, is))) =
     let e : text ∷ word ∷ [] ≡ codes "gen" ∷ other ∷ [] = sym are ∙ two in
     let w : word ≡ other = cc in
     let t : text ≡ codes "gen" = cc in
     (none number (subst (λ x. IsNumber x number) (sym w) is)).0 t
-names_no_two words text word are none (inr (number, inr (other, two, is))) =
+names_no_two words text word are filter none (inr (number, inr (other, two, is))) =
     let e : text ∷ word ∷ [] ≡ codes "trial" ∷ other ∷ [] = sym are ∙ two in
     let w : word ≡ other = cc in
     let t : text ≡ codes "trial" = cc in

@@ -33,7 +33,8 @@ IsAnswer (Account account) input left answer text =
     IfSome input (λ bytes. IsReported account bytes answer text)
 IsAnswer (Convert conversion) input left answer text =
     IfSome input (λ bytes. IsWritten conversion bytes left answer text)
-IsAnswer Run input left answer text = IfSome input (λ bytes. IsRan bytes answer text)
+IsAnswer (Run snooping) input left answer text =
+    IfSome input (λ bytes. IsRan snooping bytes answer text)
 IsAnswer (Gen number) input left answer text = IsGenerated number answer text
 IsAnswer (Trial number) input left answer text = IsTried number answer
 
@@ -47,8 +48,8 @@ FitsAnswer (Account account) (Accepted events) text = ⊥
 FitsAnswer (Account account) answer text = text ≡ out_text_of answer
 FitsAnswer (Convert conversion) NoMemory text = text ≡ []
 FitsAnswer (Convert conversion) answer text = ⊤
-FitsAnswer Run Ran text = WritesSomeRun text
-FitsAnswer Run answer text = text ≡ out_text_of answer
+FitsAnswer (Run snooping) Ran text = WritesSomeRun snooping text
+FitsAnswer (Run snooping) answer text = text ≡ out_text_of answer
 FitsAnswer (Gen number) answer text = ⊤
 FitsAnswer (Trial number) answer text = text ≡ out_text_of answer
 
@@ -66,7 +67,7 @@ CanBeInput command bytes = ⊤
 -- the words and the bytes of the input alone tell what the command writes: it runs no script, or
 -- the input isn't a whole one; and it writes no certificate, or the input isn't accepted
 abbrev pub IsSettled : Command → List ℕ → Type 0
-IsSettled Run bytes = (plan : Plan) → Reads bytes plan Whole → ⊥
+IsSettled (Run snooping) bytes = (plan : Plan) → Reads bytes plan Whole → ⊥
 IsSettled (Trial number) bytes = ⊥
 IsSettled (Account Order) bytes =
     (header : Header) (events : List Event) → AreAccepted bytes header events → ⊥

@@ -9,6 +9,6 @@ abbrev pub Names : List (String Global) → Command → Type 0
 Names words Check = IsCheck words
 Names words (Account account) = IsAccount words account
 Names words (Convert conversion) = IsConvert words conversion
-Names words Run = IsRun words
+Names words (Run snooping) = IsRun words snooping
 Names words (Gen number) = IsGen words number
 Names words (Trial number) = IsTrial words number

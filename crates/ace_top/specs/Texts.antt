@@ -34,7 +34,7 @@ out_text_of answer = []
 -- what is written to the standard error
 abbrev pub notes_text_of : Answer → List ℕ
 notes_text_of Usage =
-    codes "usage: ace check|run|show|migrate|pack|unpack|report|order|gen N|trial N\n"
+    codes "usage: ace check|run [filter]|show|migrate|pack|unpack|report|order|gen N|trial N\n"
 notes_text_of (Malformed line reason) = codes "malformed line " ++ decimal line ++ codes ": F" ++ decimal (number_of_reason reason) ++ codes "\n"
 notes_text_of (MalformedScript line reason) = codes "malformed line " ++ decimal line ++ codes ": P" ++ decimal (script.number_of_reason reason) ++ codes "\n"
 notes_text_of (MalformedRecord byte reason) =

@@ -6,6 +6,8 @@ use Rattle.ace_account.specs.declared.listener.Account.{Account}
 use Rattle.ace_account.specs.declared.listener.Account.TheVariants.{Report, Order}
 use Rattle.ace_convert.specs.declared.conversion.Conversion.{Conversion}
 use Rattle.ace_convert.specs.declared.conversion.Conversion.TheVariants.{Show, Migrate, Pack, Unpack}
+use Rattle.ace_top.specs.declared.words.Snooping.{Snooping}
+use Rattle.ace_top.specs.declared.words.Snooping.TheVariants.{AllPorts, KeptPorts}
 
 -- there is one word, and it is this text
 abbrev pub IsWord : List (String Global) → List ℕ → Type 0
@@ -41,8 +43,17 @@ IsConvert words conversion = IsWord words (word_of conversion)
 abbrev pub IsNumber : List ℕ → ℕ → Type 0
 IsNumber word number = (number < 2 ^ 64) × (word ≡ decimal number)
 
-abbrev pub IsRun : List (String Global) → Type 0
-IsRun words = IsWord words (codes "run")
+-- the words for a run, by what it snoops
+abbrev pub run_words : Snooping → List (List ℕ)
+run_words AllPorts = codes "run" ∷ []
+run_words KeptPorts = codes "run" ∷ codes "filter" ∷ []
+
+-- the words are those for a run
+abbrev pub IsRun : List (String Global) → Snooping → Type 0
+IsRun words snooping = map string_bytes words ≡ run_words snooping
+
+abbrev pub IsSomeRun : List (String Global) → Type 0
+IsSomeRun words = (snooping : Snooping) × IsRun words snooping
 
 -- there are two words, this text and this number
 abbrev pub IsNumbered : List (String Global) → List ℕ → ℕ → Type 0
@@ -61,7 +72,7 @@ IsTraceCommand words =
 
 -- The words name a command that reads its input: a trace, or a script.
 abbrev pub IsReadingCommand : List (String Global) → Type 0
-IsReadingCommand words = IsTraceCommand words ⊎ IsRun words
+IsReadingCommand words = IsTraceCommand words ⊎ IsSomeRun words
 
 -- The words name a command.
 abbrev pub IsCommand : List (String Global) → Type 0

@@ -194,7 +194,7 @@ pub fn notes_text(answer: Answer) -> ArrayString<96>
         }
         Answer::Usage => {
             text.push_str(
-                "usage: ace check|run|show|migrate|pack|unpack|report|order|gen N|trial N\n",
+                "usage: ace check|run [filter]|show|migrate|pack|unpack|report|order|gen N|trial N\n",
             );
         }
         Answer::ReadFault => text.push_str("read fault\n"),

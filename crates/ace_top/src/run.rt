@@ -6,6 +6,7 @@ ghost use Rattle.ace_event.specs.Ports.{IsHeader};
 ghost use Rattle.ace_event.specs.Range.{IsAddress};
 ghost use Rattle.ace_event.specs.Text.{events_text, trace_text};
 ghost use Rattle.ace_io.specs.Faults.{HasCause};
+ghost use Rattle.ace_fabric.specs.System.{plan_of};
 ghost use Rattle.ace_runs.specs.Follows.{Done};
 ghost use Rattle.ace_runs.specs.Ranges.{FitsTypes, IsWritable};
 ghost use Rattle.ace_script.specs.Errors.{HasNoPlan};
@@ -15,13 +16,16 @@ ghost use Rattle.ace_writer.specs.Given.{GivesFront, sink_of, version_of, has_fa
 ghost use Rattle.ace_whole_runs.specs.Runs.{IsRunOf};
 ghost use Rattle.ace_top.specs.Answer.{CarriesOut, HasStatusCause};
 ghost use Rattle.ace_convert.specs.Output.{AppendsPart};
+ghost use Rattle.ace_top.specs.Run.{SnoopsBy};
 ghost use Rattle.ace_top.specs.declared.words.Command.TheVariants as command;
 
 use crate::answer::{Answer, plan_answer};
 use crate::output::{break_off, conclude};
+use crate::words::Snooping;
 use ace_event::laws::every_event_fits;
 use ace_event::{Event, Header};
 use ace_fabric::System;
+use ace_filter::run_filtered;
 use ace_io::{Gate, NoMemory, Sink, Source};
 use ace_run::run_threads;
 use ace_runs::laws::each_event_is_in_range;
@@ -152,14 +156,34 @@ fn put_run<K: Sink>(system: System, out: &mut K) -> Result<(), WriteErr>
     written
 }
 
+/// The run of the plan, once it is done: in threads, or with a snoop filter on the caller's thread.
+fn run_plan<R: Threads + Wait + Sync, G: Gate + Sync>(
+    rt: &R,
+    alloc: Global,
+    plan: &Plan,
+    gate: &G,
+    snooping: Snooping,
+) -> Result<System, NoMemory>
+    ensures done { IfOk result (λ s. Done s.plan s.past) }
+    ensures plan { IfOk result (λ s. plan_of s ≡ plan.now) }
+    ensures snoops { IfOk result (λ s. SnoopsBy snooping s.plan.header s.past) }
+{
+    match snooping {
+        Snooping::AllPorts => run_threads(rt, alloc, plan, gate),
+        Snooping::KeptPorts => run_filtered(alloc, plan),
+    }
+}
+
 /// The run of the script that the input gives, once it is done.
 fn run<R: Threads + Wait + Sync, S: Source, G: Gate + Sync>(
     rt: &R,
     alloc: Global,
     input: &mut S,
     gate: &G,
+    snooping: Snooping,
 ) -> Result<System, PlanErr>
     ensures done { IfOk result (λ s. Done s.plan s.past) }
+    ensures snoops { IfOk result (λ s. SnoopsBy snooping s.plan.header s.past) }
     ensures script { IfOk result (λ s. IfSome (S.left input.old) (λ bytes. Reads bytes s.plan Whole)) }
     ensures end { OnOk result (IsAtEnd (S.left input.new)) }
     ensures steady { OnOk result (S.faults input.new ≡ S.faults input.old) }
@@ -167,7 +191,7 @@ fn run<R: Threads + Wait + Sync, S: Source, G: Gate + Sync>(
 {
     match Plan::read(alloc, input) {
         Ok(plan) => {
-            let ran = run_threads(rt, alloc, &plan, gate);
+            let ran = run_plan(rt, alloc, &plan, gate, snooping);
             drop(plan);
             match ran {
                 Ok(system) => Ok(system),
@@ -187,14 +211,15 @@ pub fn run_script<R: Threads + Wait + Sync, S: Source, K: Sink, E: Sink, G: Gate
     out: &mut K,
     notes: &mut E,
     gate: &G,
+    snooping: Snooping,
 ) -> u8
-    ensures carried_out { CarriesOut command.Run (S.left input.old) (S.left input.new) result (K.held out.old) (K.held out.new)
+    ensures carried_out { CarriesOut (command.Run snooping) (S.left input.old) (S.left input.new) result (K.held out.old) (K.held out.new)
         (E.held notes.old) (E.held notes.new) (E.faults notes.old) (E.faults notes.new) }
     ensures cause { HasStatusCause result (S.faults input.old) (S.faults input.new)
         (K.faults out.old) (K.faults out.new) (E.faults notes.old) (E.faults notes.new) }
     ensures end { result ≡ 0 → IsAtEnd (S.left input.new) }
 {
-    match run(rt, alloc, input, gate) {
+    match run(rt, alloc, input, gate, snooping) {
         Ok(system) => match put_run(system, out) {
             Ok(()) => conclude(out, notes, Answer::Ran),
             Err(_) => break_off(notes),

@@ -4,7 +4,7 @@ ghost use Rattle.std.specs.Io.KnownBytes.{Appends, IsAtEnd};
 ghost use Rattle.ace_io.specs.Faults.{Rose};
 ghost use Rattle.ace_grammar.specs.Errors.{LeavesNothing};
 ghost use Rattle.ace_top.specs.Verdict.{ReadsSound};
-ghost use Rattle.ace_top.specs.Words.{IsCheck, IsRun, IsSomeAccount, IsTraceCommand, IsReadingCommand, IsCommand};
+ghost use Rattle.ace_top.specs.Words.{IsCheck, IsSomeRun, IsSomeAccount, IsTraceCommand, IsReadingCommand, IsCommand};
 ghost use Rattle.ace_top.specs.Answer.{AnswersWords, BreaksOffWords};
 ghost use Rattle.ace_top.specs.Output.{AppendsParts};
 
@@ -33,7 +33,7 @@ pub fn ace<R: Threads + Wait + Sync, S: Source, K: Sink, E: Sink, G: Gate + Sync
     gate: &G,
 ) -> u8
     // Where no output failed, the status and the texts are those of an answer to the words and the input. So a run writes the trace of a
-    // run of the whole script, however its threads come to their turns.
+    // run of the whole script, however its threads come to their turns; with a filter each of its snoops of a line goes to a port that may hold it.
     ensures answer { result ≢ 5 → AnswersWords words.now (S.left input.old) (S.left input.new) result
         (K.held out.old) (K.held out.new) (E.held notes.old) (E.held notes.new) }
 
@@ -41,7 +41,7 @@ pub fn ace<R: Threads + Wait + Sync, S: Source, K: Sink, E: Sink, G: Gate + Sync
     // are, and none is left. Where it is that of `check`, `report` or `order`, the trace has all that acceptance promises: it is coherent, its
     // exclusive stores are exclusive, its barriers order, and its Syncs wait for all.
     ensures whole { IsTraceCommand words.now → result ≡ 0 → LeavesNothing (S.left input.old) (S.left input.new) }
-    ensures script_whole { IsRun words.now → result ≡ 0 → IsAtEnd (S.left input.new) }
+    ensures script_whole { IsSomeRun words.now → result ≡ 0 → IsAtEnd (S.left input.new) }
     ensures sound { IsCheck words.now ⊎ IsSomeAccount words.now → result ≡ 0
         → IfSome (S.left input.old) ReadsSound }
 
@@ -74,7 +74,7 @@ pub fn ace<R: Threads + Wait + Sync, S: Source, K: Sink, E: Sink, G: Gate + Sync
         Some(Command::Check) => tell_verdict(alloc, input, out, notes),
         Some(Command::Account { account }) => tell_account(alloc, input, out, notes, account),
         Some(Command::Convert { conversion }) => write_out(alloc, input, out, notes, conversion),
-        Some(Command::Run) => run_script(rt, alloc, input, out, notes, gate),
+        Some(Command::Run { snooping }) => run_script(rt, alloc, input, out, notes, gate, snooping),
         Some(Command::Gen { number }) => write_script(alloc, number, out, notes),
         Some(Command::Trial { number }) => tell_trial(alloc, number, out, notes),
         None => conclude(out, notes, Answer::Usage),

@@ -14,6 +14,15 @@ use ace_io::NoMemory;
 use itoa::Buffer;
 use std::alloc::Global;
 
+/// Which ports a run snoops for a line.
+#[derive(Clone, Copy, Debug, PartialEq, Eq)]
+pub enum Snooping {
+    /// Any that may be snooped.
+    AllPorts,
+    /// Only those that a snoop filter has for the line.
+    KeptPorts,
+}
+
 /// What the program is asked to do.
 #[derive(Clone, Copy, Debug, PartialEq, Eq)]
 pub enum Command {
@@ -24,7 +33,7 @@ pub enum Command {
     /// To write what is made of a trace.
     Convert { conversion: Conversion },
     /// To run a script, and to write the trace of the run.
-    Run,
+    Run { snooping: Snooping },
     /// To write the script that is made from this number.
     Gen { number: u64 },
     /// To run that script, and to tell of the run.
@@ -106,7 +115,9 @@ fn one_word(text: &str) -> Option<Command>
 {
     match text {
         "check" => Some(Command::Check),
-        "run" => Some(Command::Run),
+        "run" => Some(Command::Run {
+            snooping: Snooping::AllPorts,
+        }),
         _ => match (account_of(text), conversion_of(text)) {
             (Some(account), _) => Some(Command::Account { account }),
             (None, Some(conversion)) => Some(Command::Convert { conversion }),
@@ -121,9 +132,12 @@ fn two_words(text: &str, word: &str) -> Option<Command>
     ensures { (words : List (String Global)) → map string_bytes words ≡ text.now ∷ word.now ∷ []
         → MatchOption result (¬ IsCommand words) (Names words) }
 {
-    match (text, number_of(word)) {
-        ("gen", Some(number)) => Some(Command::Gen { number }),
-        ("trial", Some(number)) => Some(Command::Trial { number }),
+    match (text, word, number_of(word)) {
+        ("run", "filter", _) => Some(Command::Run {
+            snooping: Snooping::KeptPorts,
+        }),
+        ("gen", _, Some(number)) => Some(Command::Gen { number }),
+        ("trial", _, Some(number)) => Some(Command::Trial { number }),
         _ => None,
     }
 }

@@ -96,7 +96,8 @@ const OPENING: &str = "ACE 2\nPORTS AL\n\
     MEM 00000040 00112233445566778899aabbccddeeff00000000000000000000000000000000000000000000000000000000000000000000000000000000ffffffffffffffff\n\
     RK 1f UC\n";
 
-const USAGE: &str = "usage: ace check|run|show|migrate|pack|unpack|report|order|gen N|trial N\n";
+const USAGE: &str =
+    "usage: ace check|run [filter]|show|migrate|pack|unpack|report|order|gen N|trial N\n";
 
 /// A trace, and what is wanted of a command over it: the status, and the texts of the two outputs.
 type Row = (&'static str, u8, &'static str, &'static str);
@@ -590,7 +591,7 @@ fn scripts_broken_off(rt: HostRuntime) -> Result<(), Fail> {
 }
 
 /// Words that name no command.
-const NO_COMMANDS: [&[&str]; 35] = [
+const NO_COMMANDS: [&[&str]; 43] = [
     &["gen"],
     &["gen", ""],
     &["gen", "x"],
@@ -610,6 +611,14 @@ const NO_COMMANDS: [&[&str]; 35] = [
     &["1", "gen"],
     &["check", "1"],
     &["run", "1"],
+    &["run", "x"],
+    &["run", "Filter"],
+    &["run", "filter "],
+    &["run", "filter", "x"],
+    &["run", "filter", "filter"],
+    &["run", "run"],
+    &["filter"],
+    &["filter", "run"],
     &["trial"],
     &["trial", "01"],
     &["trial", "1", "1"],

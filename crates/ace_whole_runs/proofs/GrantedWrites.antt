@@ -1,5 +1,5 @@
 -- Step 9: a granted write that may write memory has its M and its B.
-use Rattle.std.proofs.Common.{◌≡◌, ℕ, Bool, true, false, not, ◌&&◌, if◌then◌else◌, [], ◌∷◌, ◌++◌, map, Some, refl, sym, ap, subst, ◌∙◌, arith}
+use Rattle.std.proofs.Common.{◌≡◌, ℕ, Bool, true, false, not, ◌&&◌, if◌then◌else◌, List, [], ◌∷◌, ◌++◌, map, Some, refl, sym, ap, subst, ◌∙◌, arith}
 use Rattle.std.specs.Option.{option_to_list}
 use Rattle.std.proofs.lemmas.Bool.{and_from, and_parts, not-true}
 use Rattle.ace_event.specs.declared.event.Event.{Event}
@@ -15,7 +15,8 @@ use Rattle.ace_model.proofs.Grants.Granted.{granted_write}
 use Rattle.ace_runs.specs.Bursts.{is_kept, may_begin, may_serve}
 use Rattle.ace_runs.specs.LineSteps.{memory_write, response, write_burst}
 use Rattle.ace_runs.proofs.NeverStuck.Updates.UpdatesMove.{data-there}
-use Rattle.ace_engine.specs.Engines.{Home, IsLegal, numbers_of}
+use Rattle.ace_runs.specs.Steps.{has_number, service}
+use Rattle.ace_engine.specs.Engines.{IsLegal}
 use Rattle.ace_home.specs.Among.{all_ports}
 use Rattle.ace_home.specs.Home.{IsOf}
 use Rattle.ace_home.specs.Services.{first_kept}
@@ -60,5 +61,6 @@ module _ (plan : Plan) (past : Trace) (p : ℕ) (legal : IsLegal plan past) wher
         by false f begins =
             let bad : false ≡ true = sym (ap (λ b. may_begin h past (if b then memory_write h past x ++ response x else [])) f) ∙ begins in cc
 
-  pub gives-write : may_serve write_burst plan.header past p ≡ true → GivesStep (numbers_of Home) plan past p
-  gives-write = gives-given write_burst (numbers_of Home) plan past p 9 8 refl (omega arith) refl written
+  pub gives-write : (numbers : List ℕ) → has_number numbers (service 9 write_burst) ≡ true → may_serve write_burst plan.header past p ≡ true
+      → GivesStep numbers plan past p
+  gives-write numbers has = gives-given write_burst numbers plan past p 9 8 has (omega arith) refl written

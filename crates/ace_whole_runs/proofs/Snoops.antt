@@ -13,11 +13,14 @@ use Rattle.ace_model.specs.Transactions.{is_outstanding, snoop_of}
 use Rattle.ace_model.proofs.General.Options.{is_some_and-is}
 use Rattle.ace_model.proofs.Trace.Growth.{IsIssued, some_issued-found, some_issued-is}
 use Rattle.ace_runs.specs.Bursts.{is_kept}
-use Rattle.ace_runs.specs.LineSteps.{gives_snoops, is_snoop_for, may_snoop, snoop_for}
-use Rattle.ace_runs.specs.Steps.{StepKind, has_number, is_sound, may_give, step, steps_of}
+use Rattle.ace_runs.specs.LineSteps.{may_snoop, snoop_for}
+use Rattle.ace_runs.specs.SameEvents.{same_event}
+use Rattle.ace_runs.specs.Steps.{StepKind, has_number, is_sound, may_give, step}
 use Rattle.ace_runs.proofs.NeverStuck.Steps.SameBursts.{burst-self}
 use Rattle.ace_engine.specs.Engines.{Home, numbers_of}
-use Rattle.ace_whole_runs.proofs.Interconnect.{GivesStep}
+use Rattle.ace_home.specs.Among.{PortSets, all_ports, are_snoops_among, gives_snoops_among, has_snoop_among, is_snoop_among, may_snoop_among, steps_among}
+use Rattle.ace_home.proofs.Among.{step-of-any}
+use Rattle.ace_whole_runs.proofs.Interconnect.{GivesAmong, GivesStep}
 
 pub some-port : (n : ℕ) (test : ℕ → Bool) → list_any test (ports_below n) ≡ true → (q : ℕ) × (test q ≡ true)
 some-port n test t = some (ports_below n) t
@@ -26,37 +29,46 @@ some-port n test t = some (ports_below n) t
     some [] t = cc
     some (q ∷ ps) t = elim (or_cases (test q) (list_any test ps) t) [ inl here ↦ (q, here) | inr later ↦ some ps later ]
 
--- the snoop of a port for the transaction
-snoop-step : (plan : Plan) (past : Trace) (p : ℕ) (x : Transaction) (k : SnoopKind) (q : ℕ) → may_snoop plan.header past p ≡ true → IsIssued past x
-    → ((x.port == p) && is_outstanding plan.header past x) ≡ true → is_granted plan.header past x ≡ true → snoop_of x ≡ Some k
-    → is_kept plan.header past (snoop_for x k q) ≡ true → GivesStep (numbers_of Home) plan past p
-snoop-step plan past p x k q may issued mine granted caused kept =
-    let h = plan.header in
-    let burst : List Event = snoop_for x k q ∷ [] in
-    let all : list_all (is_snoop_for x k) burst ≡ true = burst-self burst in
-    let snoops : (is_granted h past x && is_some_and (snoop_of x) (λ k. list_all (is_snoop_for x k) burst)) ≡ true =
-    and_from _ _ granted (ap (λ v. is_some_and v (λ k. list_all (is_snoop_for x k) burst)) caused ∙ all) in
-    let gives : gives_snoops h past p burst ≡ true =
-    some_issued-found past (λ x. (x.port == p) && is_outstanding h past x
-    && (is_granted h past x && is_some_and (snoop_of x) (λ k. list_all (is_snoop_for x k) burst))) x.place x issued.there
-    (and_from _ _ mine snoops) in
-    let sound : is_sound h past burst ≡ true = and_from _ _ refl (and_from _ _ kept refl) in
-    let test = λ (r : StepKind). has_number (numbers_of Home) r && may_give h past p burst r in
-    record {
-      burst = burst;
-      step = and_from _ _ sound
-          (list_any_at test (steps_of plan past p) 5 (step 6 may_snoop gives_snoops) (omega arith) (and_from _ _ may gives));
-      own = refl;
-    }
+module _ (among : PortSets) (plan : Plan) (past : Trace) (p : ℕ) where
+  -- the snoop of a port of the set for the transaction
+  snoop-step : (x : Transaction) (k : SnoopKind) (q : ℕ) → may_snoop_among among plan.header past p ≡ true → IsIssued past x
+      → ((x.port == p) && is_outstanding plan.header past x) ≡ true → is_granted plan.header past x ≡ true → snoop_of x ≡ Some k
+      → among x.addr q ≡ true → is_kept plan.header past (snoop_for x k q) ≡ true → GivesAmong among (numbers_of Home) plan past p
+  snoop-step x k q may issued mine granted caused within kept =
+      let h = plan.header in
+      let snoop : Event = snoop_for x k q in
+      let burst : List Event = snoop ∷ [] in
+      let same = (and_parts (same_event snoop snoop) true (burst-self burst)).0 in
+      let all : list_all (is_snoop_among among x k) burst ≡ true = and_from _ _ (and_from _ _ within same) refl in
+      let snoops : are_snoops_among among h past x burst ≡ true =
+      and_from _ _ granted (ap (λ v. is_some_and v (λ k. list_all (is_snoop_among among x k) burst)) caused ∙ all) in
+      let gives : gives_snoops_among among h past p burst ≡ true =
+      some_issued-found past (λ x. (x.port == p) && is_outstanding h past x && are_snoops_among among h past x burst) x.place x issued.there
+      (and_from _ _ mine snoops) in
+      let sound : is_sound h past burst ≡ true = and_from _ _ refl (and_from _ _ kept refl) in
+      let test = λ (r : StepKind). has_number (numbers_of Home) r && may_give h past p burst r in
+      record {
+        burst = burst;
+        step = and_from _ _ sound
+            (list_any_at test (steps_among among plan past p) 5 (step 6 (may_snoop_among among) (gives_snoops_among among)) (omega arith)
+            (and_from _ _ may gives));
+        own = refl;
+      }
 
+  pub gives-snoop-among : may_snoop_among among plan.header past p ≡ true → GivesAmong among (numbers_of Home) plan past p
+  gives-snoop-among may =
+      let h = plan.header in
+      let x = some_issued-is past (λ x. (x.port == p) && is_outstanding h past x && has_snoop_among among h past x) may in
+      let two = and_parts ((x.0.port == p) && is_outstanding h past x.0) (has_snoop_among among h past x.0) x.2 in
+      let some = is_some_and (snoop_of x.0) (λ k. list_any (λ q. among x.0.addr q && is_kept h past (snoop_for x.0 k q)) (ports_below h.ports)) in
+      let has = and_parts (is_granted h past x.0) some two.1 in
+      let k = is_some_and-is (snoop_of x.0) (λ k. list_any (λ q. among x.0.addr q && is_kept h past (snoop_for x.0 k q)) (ports_below h.ports)) has.1 in
+      let q = some-port h.ports (λ q. among x.0.addr q && is_kept h past (snoop_for x.0 k.0 q)) k.2 in
+      let both = and_parts (among x.0.addr q.0) (is_kept h past (snoop_for x.0 k.0 q.0)) q.1 in
+      snoop-step x.0 k.0 q.0 may x.1 two.0 has.0 k.1 both.0 both.1
+
+-- where each port may be snooped
 pub gives-snoop : (plan : Plan) (past : Trace) (p : ℕ) → may_snoop plan.header past p ≡ true → GivesStep (numbers_of Home) plan past p
 gives-snoop plan past p may =
-    let h = plan.header in
-    let x = some_issued-is past (λ x. (x.port == p) && is_outstanding h past x
-    && (is_granted h past x && is_some_and (snoop_of x) (λ k. list_any (λ q. is_kept h past (snoop_for x k q)) (ports_below h.ports)))) may in
-    let some = is_some_and (snoop_of x.0) (λ k. list_any (λ q. is_kept h past (snoop_for x.0 k q)) (ports_below h.ports)) in
-    let two = and_parts ((x.0.port == p) && is_outstanding h past x.0) (is_granted h past x.0 && some) x.2 in
-    let has = and_parts (is_granted h past x.0) some two.1 in
-    let k = is_some_and-is (snoop_of x.0) (λ k. list_any (λ q. is_kept h past (snoop_for x.0 k q)) (ports_below h.ports)) has.1 in
-    let q = some-port h.ports (λ q. is_kept h past (snoop_for x.0 k.0 q)) k.2 in
-    snoop-step plan past p x.0 k.0 q.0 may x.1 two.0 has.0 k.1 q.1
+    let g = gives-snoop-among all_ports plan past p may in
+    record { burst = g.burst; step = step-of-any all_ports plan past p g.burst (numbers_of Home) g.step; own = g.own }

@@ -59,7 +59,7 @@ type Call = (
     &'static str,
 );
 
-const BROKEN_OFF: [Call; 11] = [
+const BROKEN_OFF: [Call; 12] = [
     (&["show"], ONE, (27, 99), 0, ONE, ""),
     (&[], ONE, (99, 0), 5, "", ""),
     (&["check"], "", (99, 0), 5, "", ""),
@@ -86,6 +86,14 @@ const BROKEN_OFF: [Call; 11] = [
     (&["run"], "", (99, 4), 5, "", "malf"),
     (
         &["run"],
+        WRITE,
+        (20, 99),
+        5,
+        "ACE 1\nPORTS L\nAW 0 0",
+        "write fault\n",
+    ),
+    (
+        &["run", "filter"],
         WRITE,
         (20, 99),
         5,

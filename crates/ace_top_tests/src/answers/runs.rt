@@ -42,14 +42,20 @@ const MANY: &str = "ACE SCRIPT 1\nPORTS AAAL\nCACHE 2\nPOLICY mixed 000000000000
     3 wlu 00004000 77777777777777777777777777777777777777777777777777777777777777777777777777777777777777777777777777777777777777777777777777777777\n\
     3 sb\n3 ro 00002040\n1 ld 00004000 0\n0 mb\n";
 
-/// A run of the script: its trace.
+/// The words of the two kinds of run: any port is snooped for a line, or only those that a snoop filter has for it.
+const RUN: &[&str] = &["run"];
+
+const RUN_FILTER: &[&str] = &["run", "filter"];
+
+/// A run of the script by these words: its trace.
 fn run_of<R: Threads + Wait + Sync>(
     rt: &R,
     alloc: Global,
+    words: &[&str],
     script: &[u8],
 ) -> Result<Answered, Fail> {
     let mut input = HonestSource::new(script);
-    answer(rt, alloc, &["run"], &mut input, (4_000_000, 99))
+    answer(rt, alloc, words, &mut input, (4_000_000, 99))
 }
 
 /// What is wanted of a text: the whole of it, its front, or parts of it.
@@ -118,20 +124,31 @@ fn are_told<R: Threads + Wait + Sync>(
     )
 }
 
-/// Whether a run of the script writes such a trace, of which such a verdict and report are told.
-fn is_row<R: Threads + Wait + Sync>(
+/// Whether a run of the script by these words writes such a trace, of which such a verdict and report are told.
+fn is_row_of<R: Threads + Wait + Sync>(
     rt: &R,
     alloc: Global,
+    words: &[&str],
     script: &[u8],
     row: &Row,
 ) -> Result<bool, Fail> {
-    let run = run_of(rt, alloc, script)?;
+    let run = run_of(rt, alloc, words, script)?;
     let trace = run.out.bytes();
     let written = run.status == 0 && is_wanted(trace, row.trace);
     let told = are_told(rt, alloc, trace, row);
     drop(run);
     let told = told?;
     Ok(written && told)
+}
+
+/// The same of both kinds of run.
+fn is_row<R: Threads + Wait + Sync>(
+    rt: &R,
+    alloc: Global,
+    script: &[u8],
+    row: &Row,
+) -> Result<bool, Fail> {
+    Ok(is_row_of(rt, alloc, RUN, script, row)? && is_row_of(rt, alloc, RUN_FILTER, script, row)?)
 }
 
 const ANY_TRACE: Wanted = Wanted::Front("ACE 1\n");
@@ -186,6 +203,56 @@ fn runs_of_scripts(rt: HostRuntime) -> Result<(), Fail> {
             is_row(&rt, rt.alloc(), row.script.as_bytes(), &row)?,
             "{}",
             row.script
+        );
+    }
+    Ok(())
+}
+
+/// Two ports load a line each that nobody holds.
+const TWO_LINES: &str = "ACE SCRIPT 1\nPORTS AAA\nCACHE 1\nPOLICY keep\n\
+    0 ld 00000040 0\n1 ld 00000080 0\n";
+
+/// Two ports store to one line, which the two others never hold.
+const ONE_HOLDER: &str = "ACE SCRIPT 1\nPORTS AAAA\nCACHE 1\nPOLICY keep\n\
+    0 st 00000040 0 11111111111111111111111111111111\n\
+    1 st 00000040 1 22222222222222222222222222222222\n";
+
+/// How many snoops stand in the trace.
+fn snoops_of(trace: &[u8]) -> usize {
+    trace
+        .windows(4)
+        .filter(|window| *window == b"\nAC ".as_slice())
+        .count()
+}
+
+/// Whether the run by these words writes an accepted trace with so many snoops.
+fn has_snoops<R: Threads + Wait + Sync>(
+    rt: &R,
+    alloc: Global,
+    words: &[&str],
+    script: &str,
+    snoops: usize,
+) -> Result<bool, Fail> {
+    let run = run_of(rt, alloc, words, script.as_bytes())?;
+    let trace = run.out.bytes();
+    let written = run.status == 0 && snoops_of(trace) == snoops;
+    let told = tells(rt, alloc, "check", trace, ACCEPTED);
+    drop(run);
+    let told = told?;
+    Ok(written && told)
+}
+
+#[test]
+fn snoops_of_a_run(rt: HostRuntime) -> Result<(), Fail> {
+    for (words, script, snoops) in [
+        (RUN, TWO_LINES, 4),
+        (RUN_FILTER, TWO_LINES, 0),
+        (RUN, ONE_HOLDER, 6),
+        (RUN_FILTER, ONE_HOLDER, 1),
+    ] {
+        assert!(rt;
+            has_snoops(&rt, rt.alloc(), words, script, snoops)?,
+            "{words:?} {script}"
         );
     }
     Ok(())
