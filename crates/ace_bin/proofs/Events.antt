@@ -187,7 +187,7 @@ in_range_fits version (D port addr strobe x line) h = (lt-ltb port (16 ^ port_di
 in_range_fits version (Op port k res) h = (lt-ltb port (16 ^ port_digits version) h.0, port_below version port (eqb version 1) h.0, (refl, h.1, (le-leb (outcome_number res) 2 (outcome_most res), omega (arith, outcome_most res), tt)))
 in_range_fits version (Mem addr line) h = (refl, h.1, four version line.words h.2.0 h.2.1)
 
-some_tag : (version tag : ℕ) → leb 1 tag ≡ true → leb tag 0x10 ≡ true → is_tag version tag ≡ true
+pub some_tag : (version tag : ℕ) → leb 1 tag ≡ true → leb tag 0x10 ≡ true → is_tag version tag ≡ true
 some_tag version tag first last =
     let within : tag ≤ cond (eqb version 1) 0x10 0x11 =
     elim (cases_Bool (eqb version 1)) [

@@ -1,6 +1,6 @@
 -- The record of an event, as it is written and read.
-use Rattle.std.proofs.Common.{◌≡◌, ◌≢◌, ℕ, suc, ◌+◌, ◌-◌, ◌<◌, ◌≤◌, Bool, true, false, cond, ltb, List, [], ◌∷◌, ◌++◌, length, get_or, take, drop, Option, Some, None, Ok, refl, sym, ap, subst, ◌∙◌, arith, length-append, add-one, lt-ltb, le-ltb, ltb-true, ltb-false}
-use Rattle.std.proofs.lemmas.Bool.{and_left, and_right}
+use Rattle.std.proofs.Common.{◌≡◌, ◌≢◌, ℕ, suc, ◌+◌, ◌-◌, ◌<◌, ◌≤◌, ◌⊎◌, Bool, true, false, cond, ltb, List, [], ◌∷◌, ◌++◌, length, get_or, take, drop, Option, Some, None, Result, Ok, Err, inl, inr, refl, sym, ap, subst, ◌∙◌, arith, length-append, add-one, lt-ltb, le-ltb, le-leb, ltb-true, ltb-false}
+use Rattle.std.proofs.lemmas.Bool.{and_left, and_right, cases_Bool}
 use Rattle.std.proofs.lemmas.List.{append_cancel_left, take-append-drop, length-take, take_rest}
 use Rattle.ace_event.specs.declared.event.Event.{Event}
 use Rattle.ace_event.specs.Range.{InRange}
@@ -11,7 +11,7 @@ use Rattle.ace_bin.specs.Records.{fields_of, is_tag, tag_of, numbers_of, event_b
 use Rattle.ace_bin.specs.Reading.{AreBytes, fields_reason, record_reason}
 use Rattle.ace_bin.specs.Errors.{IsReadAs}
 use Rattle.ace_bin.proofs.FieldBytes.{fit_all, fit_length, fit_of, numbers_again, numbers_stay, fields_again}
-use Rattle.ace_bin.proofs.Events.{same_event, in_range_fits, in_range_tag, made, fields_short}
+use Rattle.ace_bin.proofs.Events.{same_event, in_range_fits, in_range_tag, some_tag, made, fields_short}
 
 -- ---- the reason of a record
 
@@ -117,6 +117,33 @@ begins_with_record version tag bytes are none =
 
 -- ---- what the code reads
 
+-- what was read behind a tag, by whether it is one of the version
+abbrev pub IsReadBehind : ℕ → ℕ → List ℕ → Event → Result ℕ BinReason → Type 0
+IsReadBehind version tag bytes event r =
+    ((is_tag version tag ≡ true) × IsReadAs version tag bytes event r) ⊎ ((is_tag version tag ≡ false) × (r ≡ Err Z3))
+
+-- of tags that both versions have, and of the others
+pub behind_tag : (version tag : ℕ) (bytes : List ℕ) (event : Event) (r : Result ℕ BinReason)
+    → (1 ≤ tag → tag ≤ 16 → IsReadAs version tag bytes event r)
+    → (17 ≤ tag → is_tag version tag ≡ true → IsReadAs version tag bytes event r)
+    → (tag ≡ 0 → r ≡ Err Z3) → (17 ≤ tag → is_tag version tag ≡ false → r ≡ Err Z3)
+    → IsReadBehind version tag bytes event r
+behind_tag version tag bytes event r among last zero none =
+    elim (cases_Bool (ltb 0 tag)) [
+      | inl some ↦ elim (cases_Bool (ltb 16 tag)) [
+        | inl behind ↦ elim (cases_Bool (is_tag version tag)) [
+          | inl known ↦ inl (known, last (omega (arith, ltb-true 16 tag behind)) known)
+          | inr other ↦ inr (other, none (omega (arith, ltb-true 16 tag behind)) other)
+        ]
+        | inr few ↦ inl (
+          some_tag version tag (le-leb 1 tag (omega (arith, ltb-true 0 tag some))) (le-leb tag 16 (omega (arith, ltb-false 16 tag few))),
+          among (omega (arith, ltb-true 0 tag some)) (omega (arith, ltb-false 16 tag few)),
+        )
+      ]
+      | inr least ↦ let is : tag ≡ 0 = omega (arith, ltb-false 0 tag least) in
+          inr (subst (λ t. is_tag version t ≡ false) (sym is) refl, zero is)
+    ]
+
 -- a record that was read
 pub record_is : (version tag : ℕ) (bytes : List ℕ) (event : Event) (size : ℕ) → AreBytes bytes → IsReadAs version tag bytes event (Ok size)
     → (size + 1 ≤ length (tag ∷ bytes)) × InRange version event × (take (size + 1) (tag ∷ bytes) ≡ event_bytes event)
@@ -164,6 +191,16 @@ record_in version [] event size are some h = absurd (omega (arith, some))
 record_in version (tag ∷ bytes) event size are some h =
     record_is version tag bytes event size (tail_bytes tag bytes are)
     (subst (λ (l : List ℕ). IsReadAs version tag l event (Ok size)) (take_rest (tag ∷ bytes) 1) h)
+
+-- the same of bytes that begin with a tag that may be none of the version
+pub known_in : (version : ℕ) (bytes : List ℕ) (event : Event) (size : ℕ) → AreBytes bytes → 1 ≤ length bytes
+    → IsReadBehind version (get_or bytes 0 0) (take (length bytes - 1) (drop 1 bytes)) event (Ok size)
+    → (size + 1 ≤ length bytes) × InRange version event × (take (size + 1) bytes ≡ event_bytes event)
+known_in version bytes event size are some h =
+    elim h [
+      | inl known ↦ record_in version bytes event size are some known.1
+      | inr other ↦ absurd (let is : Ok size ≡ Err Z3 = other.1 in cc)
+    ]
 
 -- how many bytes a record that was read has
 pub record_size : (version : ℕ) (bytes : List ℕ) (event : Event) (size : ℕ) → (size ≤ length bytes) × InRange version event × (take size bytes ≡ event_bytes event)

@@ -1,5 +1,6 @@
 // The record at the front of some bytes, by its tag.
-ghost use Rattle.std.specs.Prelude.{◌≡◌, ◌≢◌, ◌<◌, ◌≤◌, length, IsTrue, OnErr};
+ghost use Rattle.std.specs.Prelude.{◌≡◌, ◌≢◌, ◌<◌, ◌≤◌, length, false, Err, IsTrue, OnErr};
+ghost use Rattle.ace_bin.specs.declared.reason.BinReason.TheVariants.{Z3};
 ghost use Rattle.ace_bin.specs.Errors.{IsReadAs, IsRecord};
 ghost use Rattle.ace_bin.specs.Records.{is_tag};
 
@@ -29,13 +30,29 @@ fn is_tag(version: u8, tag: u8) -> bool
     1 <= tag && tag <= last
 }
 
+/// The record of the opening memory of a line, which version 1 doesn't have, and what has a tag behind that.
+#[inline(always)]
+fn read_last(tag: u8, bytes: &[u8], version: u8, event: &mut Event) -> Result<usize, BinReason>
+    requires { 17 ≤ tag }
+    ensures known { IsTrue (is_tag version tag)
+        → IsReadAs version tag bytes.now event.new result }
+    ensures none { is_tag version tag ≡ false → result ≡ Err Z3 }
+    ensures stays { OnErr result (event.new ≡ event.old) }
+{
+    if is_tag(version, tag) {
+        return read_mem(bytes, event);
+    }
+    Err(BinReason::Z3)
+}
+
 /// The records of the interconnect, and of what a port does on its own.
 #[inline(always)]
 fn read_third(tag: u8, bytes: &[u8], version: u8, event: &mut Event) -> Result<usize, BinReason>
-    requires some { 11 ≤ tag }
-    requires few { tag ≤ 17 }
-    requires mem { tag ≡ 17 → version ≢ 1 }
-    ensures event { IsReadAs version tag bytes.now event.new result }
+    requires { 11 ≤ tag }
+    ensures event { tag ≤ 16 → IsReadAs version tag bytes.now event.new result }
+    ensures last { 17 ≤ tag → IsTrue (is_tag version tag)
+        → IsReadAs version tag bytes.now event.new result }
+    ensures none { 17 ≤ tag → is_tag version tag ≡ false → result ≡ Err Z3 }
     ensures stays { OnErr result (event.new ≡ event.old) }
 {
     match tag {
@@ -45,17 +62,18 @@ fn read_third(tag: u8, bytes: &[u8], version: u8, event: &mut Event) -> Result<u
         0x0e => read_l(bytes, version, event),
         0x0f => read_d(bytes, version, event),
         0x10 => read_op(bytes, version, event),
-        _ => read_mem(bytes, event),
+        _ => read_last(tag, bytes, version, event),
     }
 }
 
 /// Those, the last ones of the write channels, and those of the snoop channels.
 #[inline(always)]
 fn read_second(tag: u8, bytes: &[u8], version: u8, event: &mut Event) -> Result<usize, BinReason>
-    requires some { 6 ≤ tag }
-    requires few { tag ≤ 17 }
-    requires mem { tag ≡ 17 → version ≢ 1 }
-    ensures event { IsReadAs version tag bytes.now event.new result }
+    requires { 6 ≤ tag }
+    ensures event { tag ≤ 16 → IsReadAs version tag bytes.now event.new result }
+    ensures last { 17 ≤ tag → IsTrue (is_tag version tag)
+        → IsReadAs version tag bytes.now event.new result }
+    ensures none { 17 ≤ tag → is_tag version tag ≡ false → result ≡ Err Z3 }
     ensures stays { OnErr result (event.new ≡ event.old) }
 {
     match tag {
@@ -72,13 +90,15 @@ fn read_second(tag: u8, bytes: &[u8], version: u8, event: &mut Event) -> Result<
 /// compiled as one choice among all tags.
 #[inline(always)]
 fn read_fields(tag: u8, bytes: &[u8], version: u8, event: &mut Event) -> Result<usize, BinReason>
-    requires some { 1 ≤ tag }
-    requires few { tag ≤ 17 }
-    requires mem { tag ≡ 17 → version ≢ 1 }
-    ensures event { IsReadAs version tag bytes.now event.new result }
+    ensures event { 1 ≤ tag → tag ≤ 16 → IsReadAs version tag bytes.now event.new result }
+    ensures last { 17 ≤ tag → IsTrue (is_tag version tag)
+        → IsReadAs version tag bytes.now event.new result }
+    ensures zero { tag ≡ 0 → result ≡ Err Z3 }
+    ensures none { 17 ≤ tag → is_tag version tag ≡ false → result ≡ Err Z3 }
     ensures stays { OnErr result (event.new ≡ event.old) }
 {
     match tag {
+        0x00 => Err(BinReason::Z3),
         0x01 => read_ar(bytes, version, event),
         0x02 => read_r(bytes, version, event),
         0x03 => read_rk(bytes, version, event),
@@ -99,9 +119,8 @@ pub fn read_record(bytes: &[u8], version: u8, event: &mut Event) -> Result<usize
     let [tag, fields @ ..] = bytes else {
         unreachable!();
     };
-    if !is_tag(version, *tag) {
-        return Err(BinReason::Z3);
+    match read_fields(*tag, fields, version, event) {
+        Ok(size) => Ok(size + 1),
+        Err(reason) => Err(reason),
     }
-    let size = read_fields(*tag, fields, version, event)?;
-    Ok(size + 1)
 }
