@@ -1,9 +1,9 @@
-use Rattle.std.proofs.Common.{◌≡◌, ℕ, Some, None, slice_get, inl, inr}
+use Rattle.std.proofs.Common.{◌≡◌, ℕ, Some, slice_get, inl, inr}
 use Rattle.ace_event.specs.declared.event.Channel.{Channel}
 use Rattle.ace_event.specs.declared.event.Channel.TheVariants.{Read, Write}
 use Rattle.ace_portck.specs.Pending.{pending_of}
 use Rattle.ace_home.specs.Home.{IsOf}
-use Rattle.ace_home.specs.Turns.{IsBefore, IsFirstOf, IsUpTo}
+use Rattle.ace_home.specs.Turns.{IsBefore, IsUpTo}
 use Rattle.ace_home.proofs.Firsts.{first-of-fewer}
 use Rattle.ace_home.proofs.Kept.{of-each-channel}
 use Rattle.ace_home.proofs.home.Home.next.Goals as goal
