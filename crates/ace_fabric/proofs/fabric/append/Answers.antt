@@ -1,4 +1,4 @@
-use Rattle.std.proofs.Common.{◌≡◌, ◌<◌, ◌∙◌, ◌∷◌, [], sym, arith, length, ap}
+use Rattle.std.proofs.Common.{◌<◌, ◌∙◌, ◌∷◌, [], sym, arith, length, ap}
 use Rattle.std.proofs.lemmas.List.{reverse-append}
 use Rattle.std.proofs.lemmas.Option.{slice_get_within}
 use Rattle.ace_fabric.proofs.Between.{onto-at}
