@@ -2,6 +2,8 @@
 pub mod Places
 -- Events that come one after the other.
 pub mod Between
+-- What engines have heard once they heard one burst and then another.
+pub mod HeardBursts
 -- The steps of a master give its own events.
 pub mod MasterEvents
 -- The steps of the home and of the engine of memory updates give their own events.

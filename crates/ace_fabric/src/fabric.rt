@@ -83,9 +83,7 @@ fn append(events: &mut Vec<Event>, burst: &Burst)
     ensures capacity { vec_capacity events.old ≤ vec_capacity events.new }
 {
     for i in 0..burst.len() {
-        if events.push(burst.get(i)).is_err() {
-            unreachable!();
-        }
+        events.push_reserved(burst.get(i));
     }
 }
 

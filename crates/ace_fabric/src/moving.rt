@@ -33,10 +33,8 @@ pub fn by_master<H: Engine, U: Engine, O: Engine, M: Engine>(
     if !masters[own].turn(port, out) {
         return false;
     }
-    hear_all(masters, own, out);
+    hear_all(update, order, masters, own, out);
     hear(home, out);
-    hear(update, out);
-    hear(order, out);
     true
 }
 
@@ -60,9 +58,7 @@ pub fn by_update<H: Engine, U: Engine, O: Engine, M: Engine>(
         return false;
     }
     let none = masters.len();
-    hear_all(masters, none, out);
-    hear(home, out);
-    hear(order, out);
+    hear_all(home, order, masters, none, out);
     true
 }
 
@@ -87,9 +83,7 @@ pub fn by_home<H: LineEngine, U: Engine, O: Engine, M: Engine, F: Among>(
         return false;
     }
     let none = masters.len();
-    hear_all(masters, none, out);
-    hear(update, out);
-    hear(order, out);
+    hear_all(update, order, masters, none, out);
     true
 }
 
@@ -113,9 +107,7 @@ pub fn by_order<H: Engine, U: Engine, O: Engine, M: Engine>(
         return false;
     }
     let none = masters.len();
-    hear_all(masters, none, out);
-    hear(home, out);
-    hear(update, out);
+    hear_all(home, update, masters, none, out);
     true
 }
 

@@ -1,8 +1,10 @@
 -- Which step the home takes on a turn: of those that are enabled for the port that of least number,
 -- and of one number that for the oldest transaction.
-use Rattle.std.specs.Prelude.{ℕ, ◌≡◌, ◌<◌, ◌≤◌, Bool, true, false, ◌&&◌, ◌==◌, nat_lt, if◌then◌else◌, List, [], ◌∷◌, filter, length, Option, Some, None}
+use Rattle.std.specs.Prelude.{ℕ, ◌≡◌, ◌⊎◌, ◌<◌, ◌≤◌, Bool, true, false, ◌&&◌, ◌==◌, nat_lt, if◌then◌else◌, List, [], ◌∷◌, filter, length, Option, Some, None}
 use Rattle.std.specs.List.{list_all}
 use Rattle.ace_codes.specs.declared.kind.SnoopKind.{SnoopKind}
+use Rattle.ace_event.specs.declared.event.Channel.{Channel}
+use Rattle.ace_event.specs.declared.event.Channel.TheVariants.{Read, Write}
 use Rattle.ace_event.specs.declared.event.Event.{Event}
 use Rattle.ace_event.specs.declared.header.Header.{Header}
 use Rattle.ace_model.specs.declared.transactions.Transaction.{Transaction}
@@ -15,7 +17,7 @@ use Rattle.ace_home.specs.Among.{PortSets, all_ports, has_snoop_among, is_enable
 use Rattle.ace_home.specs.declared.due.Due.{Due}
 use Rattle.ace_home.specs.declared.home.Home.{Home}
 use Rattle.ace_home.specs.declared.service.Service.{Service}
-use Rattle.ace_home.specs.Home.{HomeStands, IsOf}
+use Rattle.ace_home.specs.Home.{HomeStands, IsListed, IsOf}
 use Rattle.ace_home.specs.Services.{IsService, TakesNoneBelow, all_steps, gives_for, may_take, number_of}
 
 -- the numbers of the home's steps below n
@@ -79,6 +81,15 @@ abbrev pub IsFirstOf : PortSets → Header → Trace → ℕ → (Transaction �
 IsFirstOf among h past p these None =
     (y : Transaction) → these y → TakesNoneBelow among all_steps h past y
 IsFirstOf among h past p these (Some d) = IsFirst among h past p these d
+
+-- the transaction is an outstanding one of the port on a channel before this one: reads come first
+abbrev pub IsBefore : Header → Trace → ℕ → Channel → Transaction → Type 0
+IsBefore h past p Read x = ⊥
+IsBefore h past p Write x = IsListed h past p Read x
+
+-- it is one on a channel before this one, or on this one
+abbrev pub IsUpTo : Header → Trace → ℕ → Channel → Transaction → Type 0
+IsUpTo h past p c x = IsBefore h past p c x ⊎ IsListed h past p c x
 
 -- ---- the burst ----------------------------------------------------------------------------------
 

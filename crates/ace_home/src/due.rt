@@ -1,6 +1,6 @@
 //! Which of the steps for the transactions of a port comes first.
 
-ghost use Rattle.std.specs.Prelude.{◌≡◌};
+ghost use Rattle.std.specs.Prelude.{◌≡◌, true, false, Some};
 ghost use Rattle.ace_home.specs.Turns.{goes_first, sooner};
 
 use crate::service::Service;
@@ -27,13 +27,22 @@ impl Due {
     }
 }
 
-/// The one that goes first, where there are two.
-pub fn sooner(one: Option<Due>, other: Option<Due>) -> Option<Due>
-    ensures { result ≡ sooner one other }
+/// There is a first one, and it goes before the other.
+fn stays(first: &Option<Due>, next: &Due) -> bool
+    ensures yes { result ≡ true → sooner first.now (Some next.now) ≡ first.now }
+    ensures no { result ≡ false → sooner first.now (Some next.now) ≡ Some next.now }
 {
-    match (one, other) {
-        (None, other) => other,
-        (one, None) => one,
-        (Some(one), Some(other)) => Some(if one.goes_first(&other) { one } else { other }),
+    match first {
+        Some(first) => first.goes_first(next),
+        None => false,
+    }
+}
+
+/// The other one takes the place of the first, unless that goes before it.
+pub fn put_sooner(first: &mut Option<Due>, next: Due)
+    ensures { first.new ≡ sooner first.old (Some next) }
+{
+    if !stays(first, &next) {
+        *first = Some(next);
     }
 }

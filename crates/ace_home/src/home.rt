@@ -8,13 +8,13 @@ ghost use Rattle.ace_model.specs.Plans.{IsRight, Plan};
 ghost use Rattle.ace_model.specs.Trace.{Trace};
 ghost use Rattle.ace_engine.specs.Engines.{IsLegal};
 ghost use Rattle.ace_home.specs.Among.{PortSets};
-ghost use Rattle.ace_home.specs.Home.{HomeStands, IsListed, IsOf, IsServed, Tells};
+ghost use Rattle.ace_home.specs.Home.{HomeStands, IsOf, IsServed, Tells};
 ghost use Rattle.ace_home.specs.Services.{IsLeastFor, IsReply};
-ghost use Rattle.ace_home.specs.Turns.{AreSnoops, IsDue, IsFirstOf, IsServing, due_by, sooner};
+ghost use Rattle.ace_home.specs.Turns.{AreSnoops, IsBefore, IsDue, IsFirstOf, IsServing, IsUpTo, due_by, sooner};
 ghost use Rattle.ace_home.specs.declared.service.Service.{Service as Step};
 
 use crate::candidates::snoop_for;
-use crate::due::{Due, sooner};
+use crate::due::{Due, put_sooner};
 use crate::line_engine::LineEngine;
 use crate::service::Service;
 use ace_check::Shares;
@@ -74,6 +74,7 @@ impl Home {
     }
 
     /// The step of least number for an outstanding transaction. What isn't granted waits for its G.
+    #[inline(never)]
     fn service<F: Among>(&self, x: &Progress, among: &F) -> Option<Service>
         ensures { (plan : Plan) (past : Trace) (p : ℕ) → Tells self.now plan past p x.now
             → IsLeastFor (F.has among.now) plan.header past x.now.transaction result }
@@ -91,37 +92,39 @@ impl Home {
         self.reply(place, x)
     }
 
-    /// The first of this and of the step for the outstanding transaction.
-    fn first_with<F: Among>(&self, first: Option<Due>, x: &Progress, among: &F) -> Option<Due>
+    /// The step for the outstanding transaction, if there is one, goes in the place of the first
+    /// where it goes before it.
+    fn put_first_with<F: Among>(&self, first: &mut Option<Due>, x: &Progress, among: &F)
         ensures { (plan : Plan) (past : Trace) (p : ℕ) → Tells self.now plan past p x.now
             → (s : Option Step)
             × IsLeastFor (F.has among.now) plan.header past x.now.transaction s
-            × (result ≡ sooner first (due_by x.now.transaction s)) }
+            × (first.new ≡ sooner first.old (due_by x.now.transaction s)) }
     {
         match self.service(x, among) {
-            None => first,
+            None => {}
             Some(service) => {
                 let next = Due {
                     transaction: x.transaction,
                     service,
                 };
-                sooner(first, Some(next))
+                put_sooner(first, next);
             }
         }
     }
 
-    /// The first step for the outstanding transactions of the port on the channel.
-    fn due<F: Among>(&self, port: u8, chan: Channel, among: &F) -> Option<Due>
+    /// The same of the outstanding transactions of the port on the channel, where the first is that
+    /// of those on the channels before it.
+    fn put_due<F: Among>(&self, port: u8, chan: Channel, among: &F, first: &mut Option<Due>)
         ensures { (plan : Plan) (past : Trace) → HomeStands self.now plan past
             → IsFirstOf (F.has among.now) plan.header past port
-            (IsListed plan.header past port chan) result }
+            (IsBefore plan.header past port chan) first.old
+            → IsFirstOf (F.has among.now) plan.header past port
+            (IsUpTo plan.header past port chan) first.new }
     {
         let queue = self.queue(port, chan);
-        let mut first = None;
         for i in 0..queue.len() {
-            first = self.first_with(first, &queue[i], among);
+            self.put_first_with(first, &queue[i], among);
         }
-        first
     }
 
     /// The first step for the outstanding transactions of the port.
@@ -129,10 +132,10 @@ impl Home {
         ensures { (plan : Plan) (past : Trace) → HomeStands self.now plan past
             → IsFirstOf (F.has among.now) plan.header past port (IsOf plan.header past port) result }
     {
-        sooner(
-            self.due(port, Channel::Read, among),
-            self.due(port, Channel::Write, among),
-        )
+        let mut first = None;
+        self.put_due(port, Channel::Read, among, &mut first);
+        self.put_due(port, Channel::Write, among, &mut first);
+        first
     }
 
     /// Hears the next event of the trace.

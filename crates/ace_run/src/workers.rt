@@ -4,10 +4,11 @@ ghost use Rattle.std.specs.Prelude.{◌≡◌, ◌≤◌, IfOk};
 ghost use Rattle.ace_runs.specs.Follows.{Done};
 ghost use Rattle.ace_fabric.specs.System.{plan_of};
 
-use ace_fabric::System;
+use ace_fabric::{System, Turn};
 use ace_io::{Gate, NoMemory};
 use ace_script::Plan;
 use std::alloc::Global;
+use std::sync::atomic::{AtomicU64, Ordering};
 use std::sync::{Mutex, Wait};
 use std::thread;
 use std::thread::Threads;
@@ -17,35 +18,49 @@ fn turns_of(plan: &Plan) -> u32 {
     64 + 16 * u32::from(plan.view().count())
 }
 
-/// A turn of the port, if the system has it.
-fn take_turn(system: &mut System, port: u8) {
-    if port < system.plan().view().header().ports {
-        system.turn(port);
-    }
+/// A system behind a lock, and how many steps its workers put: who holds the lock counts them.
+#[derive(Drop)]
+struct Shared {
+    system: Mutex<System>,
+    steps: AtomicU64,
 }
 
-/// Takes so many turns of the port. It passes the gate before each, without the lock.
-fn work<R: Wait, G: Gate>(rt: &R, system: &Mutex<System>, gate: &G, port: u8, turns: u32) {
+/// A turn of the port, if the system has it. How many steps had been put when it put none; nothing
+/// where it put one.
+fn take_turn(system: &mut System, steps: &AtomicU64, port: u8) -> Option<u64> {
+    if port < system.plan().view().header().ports && system.turn(port) == Turn::Moved {
+        steps.fetch_add(1, Ordering::SeqCst);
+        return None;
+    }
+    Some(steps.load(Ordering::SeqCst))
+}
+
+/// Takes so many turns of the port. It passes the gate before each, without the lock. While no
+/// step has come since a turn that put none, the next puts none either, and the lock isn't taken.
+fn work<R: Wait, G: Gate>(rt: &R, shared: &Shared, gate: &G, port: u8, turns: u32) {
+    let mut idle = None;
     for turn in 0..turns {
         gate.pass(port, turn);
-        let mut held = system.lock(rt);
-        take_turn(&mut held, port);
+        if idle != Some(shared.steps.load(Ordering::SeqCst)) {
+            let mut held = shared.system.lock(rt);
+            idle = take_turn(&mut held, &shared.steps, port);
+        }
     }
 }
 
 /// A worker for each port. The caller does the work of one that can't be started.
 fn work_all<R: Threads + Wait + Sync, G: Gate + Sync>(
     rt: &R,
-    system: &Mutex<System>,
+    shared: &Shared,
     gate: &G,
     ports: u8,
     turns: u32,
 ) {
     thread::scope(thread::scope_env(), rt, |scope| {
         for port in 0..ports {
-            let started = scope.spawn(move || work(rt, system, gate, port, turns));
+            let started = scope.spawn(move || work(rt, shared, gate, port, turns));
             if started.is_err() {
-                work(rt, system, gate, port, turns);
+                work(rt, shared, gate, port, turns);
             }
         }
     });
@@ -77,7 +92,10 @@ pub fn run_threads<R: Threads + Wait + Sync, G: Gate + Sync>(
     ensures done { IfOk result (λ s. Done s.plan s.past) }
     ensures plan { IfOk result (λ s. plan_of s ≡ plan.now) }
 {
-    let shared = Mutex::new(System::start(alloc, plan)?);
+    let shared = Shared {
+        system: Mutex::new(System::start(alloc, plan)?),
+        steps: AtomicU64::new(0),
+    };
     work_all(
         rt,
         &shared,
@@ -85,7 +103,7 @@ pub fn run_threads<R: Threads + Wait + Sync, G: Gate + Sync>(
         plan.view().header().ports,
         turns_of(plan),
     );
-    let mut system = of_plan(alloc, plan, shared.into_inner())?;
+    let mut system = of_plan(alloc, plan, shared.system.into_inner())?;
     system.drain();
     Ok(system)
 }

@@ -30,9 +30,9 @@ returns-clause-moved g c = λ _ plan past r.
         legal = legal;
         steps = steps-after plan past port out r.steps step;
         home_is = moved-part g.H.Engine Home plan past out c.args.home.now c.turn_among.new.self r.home_is stands c.turn_among.ensures.serves;
-        update_is = heard-part g.U.Engine Update plan past out c.args.update.now c.hear.new.engine r.update_is legal (λ q. none-of-kind plan past Home Update port q out r.legal r.steps (λ e. cc) by) c.hear.ensures;
-        order_is = heard-part g.O.Engine Order plan past out c.args.order.now c.hear-2.new.engine r.order_is legal (λ q. none-of-kind plan past Home Order port q out r.legal r.steps (λ e. cc) by) c.hear-2.ensures;
+        update_is = heard-part g.U.Engine Update plan past out c.args.update.now c.hear_all.new.one r.update_is legal (λ q. none-of-kind plan past Home Update port q out r.legal r.steps (λ e. cc) by) c.hear_all.ensures.one;
+        order_is = heard-part g.O.Engine Order plan past out c.args.order.now c.hear_all.new.other r.order_is legal (λ q. none-of-kind plan past Home Order port q out r.legal r.steps (λ e. cc) by) c.hear_all.ensures.other;
         masters_are = all-masters g.M.Engine plan past out _ c.args.masters.now c.hear_all.new.engines (omega arith) r.masters_are legal
-            (λ q. none-of-kind plan past Home Master port q out r.legal r.steps (λ e. cc) by) c.hear_all.ensures;
+            (λ q. none-of-kind plan past Home Master port q out r.legal r.steps (λ e. cc) by) c.hear_all.ensures.engines;
       },
     )

@@ -42,9 +42,9 @@ returns-clause-moved g c = λ _ among plan past r.
         legal = legal;
         steps = steps-after plan past port out r.steps step;
         home_is = heard-part g.H.Engine Home plan past out c.args.home.now c.hear.new.engine r.home_is legal (λ q. none-of-kind plan past Master Home port q out r.legal r.steps (λ e. cc) by) c.hear.ensures;
-        update_is = heard-part g.U.Engine Update plan past out c.args.update.now c.hear-2.new.engine r.update_is legal (λ q. none-of-kind plan past Master Update port q out r.legal r.steps (λ e. cc) by) c.hear-2.ensures;
-        order_is = heard-part g.O.Engine Order plan past out c.args.order.now c.hear-3.new.engine r.order_is legal (λ q. none-of-kind plan past Master Order port q out r.legal r.steps (λ e. cc) by) c.hear-3.ensures;
+        update_is = heard-part g.U.Engine Update plan past out c.args.update.now c.hear_all.new.one r.update_is legal (λ q. none-of-kind plan past Master Update port q out r.legal r.steps (λ e. cc) by) c.hear_all.ensures.one;
+        order_is = heard-part g.O.Engine Order plan past out c.args.order.now c.hear_all.new.other r.order_is legal (λ q. none-of-kind plan past Master Order port q out r.legal r.steps (λ e. cc) by) c.hear_all.ensures.other;
         masters_are = other-masters g.M.Engine plan past out own c.args.masters.now c.hear_all.new.engines _ c.turn.new.self r.masters_are at c.turn.ensures.serves stands legal
-            (λ q off. none-of-master plan past port q out r.legal r.steps (λ e. off (sym e ∙ sym c.from-own.ensures)) by) c.hear_all.ensures;
+            (λ q off. none-of-master plan past port q out r.legal r.steps (λ e. off (sym e ∙ sym c.from-own.ensures)) by) c.hear_all.ensures.engines;
       },
     )

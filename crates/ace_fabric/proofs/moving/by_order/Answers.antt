@@ -28,9 +28,9 @@ returns-clause-moved g c = λ _ among plan past r.
         legal = legal;
         steps = steps-after plan past port out r.steps step;
         order_is = moved-part g.O.Engine Order plan past out c.args.order.now c.turn.new.self r.order_is stands c.turn.ensures.serves;
-        home_is = heard-part g.H.Engine Home plan past out c.args.home.now c.hear.new.engine r.home_is legal (λ q. none-of-kind plan past Order Home port q out r.legal r.steps (λ e. cc) by) c.hear.ensures;
-        update_is = heard-part g.U.Engine Update plan past out c.args.update.now c.hear-2.new.engine r.update_is legal (λ q. none-of-kind plan past Order Update port q out r.legal r.steps (λ e. cc) by) c.hear-2.ensures;
+        home_is = heard-part g.H.Engine Home plan past out c.args.home.now c.hear_all.new.one r.home_is legal (λ q. none-of-kind plan past Order Home port q out r.legal r.steps (λ e. cc) by) c.hear_all.ensures.one;
+        update_is = heard-part g.U.Engine Update plan past out c.args.update.now c.hear_all.new.other r.update_is legal (λ q. none-of-kind plan past Order Update port q out r.legal r.steps (λ e. cc) by) c.hear_all.ensures.other;
         masters_are = all-masters g.M.Engine plan past out _ c.args.masters.now c.hear_all.new.engines (omega arith) r.masters_are legal
-            (λ q. none-of-kind plan past Order Master port q out r.legal r.steps (λ e. cc) by) c.hear_all.ensures;
+            (λ q. none-of-kind plan past Order Master port q out r.legal r.steps (λ e. cc) by) c.hear_all.ensures.engines;
       },
     )

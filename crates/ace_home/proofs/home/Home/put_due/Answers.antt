@@ -1,0 +1,61 @@
+use Rattle.std.proofs.Common.{◌≡◌, ◌⊎◌, ℕ, ◌+◌, ◌<◌, Some, slice_get, sym, ap, subst, ◌∙◌, inl, inr, arith}
+use Rattle.std.proofs.lemmas.Bool.{cases_eq}
+use Rattle.ace_engine.proofs.Listed.{listed-within}
+use Rattle.ace_model.specs.declared.transactions.Transaction.{Transaction}
+use Rattle.ace_portck.specs.Pending.{pending_of}
+use Rattle.ace_portck.specs.Targets.{progress_of}
+use Rattle.ace_home.specs.Turns.{IsBefore, IsFirstOf, IsUpTo, due_by}
+use Rattle.ace_home.proofs.Firsts.{first-alone, first-of-fewer, first-sooner}
+use Rattle.ace_home.proofs.Kept.{listed-tells}
+use Rattle.ace_home.proofs.home.Home.put_due.Goals as goal
+
+pub loop-i-init : goal.loop-i-init
+loop-i-init g c = λ plan past stands first.
+    let h = plan.header in
+    let port = c.args.port in
+    let chan = c.args.chan in
+    first-of-fewer (g.F.Among.has c.args.among.now) h past port (IsBefore h past port chan)
+    (λ y. IsBefore h past port chan y ⊎ (k : ℕ) × (k < 0) × (slice_get (pending_of h past port chan) k ≡ Some y)) c.args.first.now first
+    (λ y at. elim at [ inl before ↦ before | inr one ↦ let low = one.1 in absurd (omega (arith, low)) ])
+
+pub loop-i-preserved : goal.loop-i-preserved
+loop-i-preserved g c = λ plan past stands first.
+    let h = plan.header in
+    let port = c.args.port in
+    let chan = c.args.chan in
+    let i = c.loop-i.i in
+    let list = c.queue-queue.ensures plan past stands in
+    let t = listed-tells c.args.self.now plan past port chan c.queue-queue.result.now i _ stands list c.loop-i-test.true in
+    let with = c.put_first_with.ensures plan past port t.0 in
+    let among = g.F.Among.has c.args.among.now in
+    let one = first-alone among h past port _ with.0 t.0.pending with.1 in
+    let so_far : Transaction → Type 0 = λ y. IsBefore h past port chan y ⊎ (k : ℕ) × (k < i) × (slice_get (pending_of h past port chan) k ≡ Some y) in
+    let with_next : Transaction → Type 0 = λ y. IsBefore h past port chan y ⊎ (k : ℕ) × (k < i + 1) × (slice_get (pending_of h past port chan) k ≡ Some y) in
+    subst (IsFirstOf among h past port with_next) (sym with.2)
+    (first-sooner among h past port so_far (λ y. _ ≡ y) with_next c.loop-i.first (due_by _ with.0) (c.loop-i.invariant plan past stands first) one (λ y at.
+    elim at [
+      | inl before ↦ inl (inl before)
+      | inr listed ↦
+          let low = listed.1 in
+          elim (cases_eq listed.0 i) [
+            | inr earlier ↦ inl (inr (listed.0, omega (arith, low, earlier), listed.2))
+            | inl here ↦ inr (t.1 y (ap (slice_get (pending_of h past port chan)) (sym here) ∙ listed.2))
+          ]
+    ]))
+
+pub returns : goal.returns
+returns g c = λ plan past stands first.
+    let h = plan.header in
+    let port = c.args.port in
+    let chan = c.args.chan in
+    let list = c.queue-queue.ensures plan past stands in
+    let high = c.loop-i-test.false in
+    let end = c.loop-i.auto.i-end in
+    first-of-fewer (g.F.Among.has c.args.among.now) h past port (λ y. IsBefore h past port chan y ⊎ (k : ℕ) × (k < c.loop-i.i) × (slice_get (pending_of h past port chan) k ≡ Some y)) (IsUpTo h past port chan)
+    c.loop-i.first (c.loop-i.invariant plan past stands first) (λ y at.
+    elim at [
+      | inl before ↦ inl before
+      | inr listed ↦
+          let within = listed-within (progress_of h past) (pending_of h past port chan) c.queue-queue.result.now list listed.0 y listed.1 in
+          inr (listed.0, omega (arith, within, high, end), listed.1)
+    ])
