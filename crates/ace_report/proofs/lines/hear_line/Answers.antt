@@ -26,7 +26,7 @@ returns-in-M-clause-stands c = λ h past t line s n.
     c.args.lines.now c.store_burst.new.lines m.is (c.outstanding.ensures r t) (c.burst.ensures r m.line t) s n c.store_burst.ensures
 
 pub returns-in-D-clause-stands : goal.returns-in-D-clause-stands
-returns-in-D-clause-stands c = λ h past t line s n. 
+returns-in-D-clause-stands c = λ h past t line s n.
     let d = c.in-D in
     heard_store h past c.args.event.now d.port d.addr d.strobe d.x d.value c.args.memory c.args.lines.now c.add_store-in-D.new.lines d.is s n c.add_store-in-D.ensures
 
