@@ -1,11 +1,14 @@
 -- What has heard a trace, for an account of it.
+use Rattle.std.specs.Prelude.{ℕ, Option, None}
 use Rattle.std.specs.List.{AllByRecursion}
+use Rattle.ace_event.specs.declared.event.Event.{Event}
 use Rattle.ace_event.specs.Range.{FitsFields}
 use Rattle.ace_event.specs.declared.header.Header.{Header}
 use Rattle.ace_model.specs.Accepted.{IsAccepted}
 use Rattle.ace_model.specs.Trace.{Trace}
 use Rattle.ace_cert_make.specs.Stands as making
 use Rattle.ace_cert_make.specs.declared.maker.Maker.{Maker}
+use Rattle.ace_report.specs.Next as next
 use Rattle.ace_report.specs.Stands as reporting
 use Rattle.ace_account.specs.declared.listener.Account.{Account}
 use Rattle.ace_account.specs.declared.listener.Account.TheVariants as account
@@ -28,3 +31,8 @@ pub record IsOrdered (maker : Maker) (h : Header) (past : Trace) : Type 0 where
 abbrev pub Stands : Listener → Header → Trace → Type 0
 Stands (Report report) h past = reporting.Stands report h past
 Stands (Order maker) h past = IsOrdered maker h past
+
+-- the line of whose memory it has to be told with an event
+abbrev pub wanted_line : Listener → Header → Trace → Event → Option ℕ
+wanted_line (Report report) h past e = next.wanted_line h past e
+wanted_line (Order maker) h past e = None

@@ -1,15 +1,15 @@
 //! What hears the events of an accepted trace, for an account of it.
 
-ghost use Rattle.std.specs.Prelude.{◌≡◌, ◌<◌, ◌∷◌, [], length, IfOk, OnOk};
+ghost use Rattle.std.specs.Prelude.{◌≡◌, ◌<◌, ◌∷◌, ℕ, [], Some, length, IfOk, OnOk};
 ghost use Rattle.ace_event.specs.Ports.{IsHeader};
 ghost use Rattle.ace_event.specs.declared.header.Header.{Header};
 ghost use Rattle.ace_model.specs.Accepted.{IsAccepted};
 ghost use Rattle.ace_model.specs.Trace.{Trace};
 ghost use Rattle.ace_portck.specs.Stands.{Stands as Tell};
-ghost use Rattle.ace_report.specs.Next.{IsNext, told_line};
+ghost use Rattle.ace_model.specs.Copies.{memory_of};
 ghost use Rattle.ace_report.specs.Stands as reporting;
 ghost use Rattle.ace_account.specs.Accounts.{HasPut, HasPutCause};
-ghost use Rattle.ace_account.specs.Listeners.{IsOrdered, Stands, account_of};
+ghost use Rattle.ace_account.specs.Listeners.{IsOrdered, Stands, account_of, wanted_line};
 ghost use Rattle.ace_account.specs.declared.listener.Account.TheVariants as account;
 
 use crate::put::put_cert;
@@ -58,14 +58,16 @@ fn put_report<K: Sink>(report: Report, sink: &mut K) -> Result<(), AccountErr>
     }
 }
 
-/// Hears the next event for a certificate, with the ports before it.
-fn hear_order(maker: &mut Maker, event: &Event, ports: &PortCheck) -> Result<(), NoMemory>
+/// Hears the next event for a certificate, with the ports before it. It takes a copy, so that the
+/// caller keeps the event's fields where they are.
+#[inline(never)]
+fn hear_order(maker: &mut Maker, event: Event, ports: &PortCheck) -> Result<(), NoMemory>
     ensures { (h : Header) (past : Trace) → Tell ports.now (record { header = h; past = past })
-        → IsOrdered maker.old h past → IsAccepted h (event.now ∷ past) → length past < 1048576
-        → OnOk result (IsOrdered maker.new h (event.now ∷ past)) }
+        → IsOrdered maker.old h past → IsAccepted h (event ∷ past) → length past < 1048576
+        → OnOk result (IsOrdered maker.new h (event ∷ past)) }
 {
-    every_event_fits(*event);
-    maker.hear(event, ports)
+    every_event_fits(event);
+    maker.hear(&event, ports)
 }
 
 /// Puts the certificate of the trace that a maker heard, of which there is no more use.
@@ -107,13 +109,28 @@ impl Listener {
         }
     }
 
-    /// Hears the next event of an accepted trace, with the ports before it, its `told_line`, and
+    /// The line of whose memory before the event it has to be told, if there is one. The ports are
+    /// those before the event.
+    #[inline(always)]
+    pub fn wanted_line(&self, event: &Event, ports: &PortCheck) -> Option<u32>
+        ensures { (h : Header) (past : Trace)
+            → Tell ports.now (record { header = h; past = past }) → Stands self.now h past
+            → result ≡ wanted_line self.now h past event.now }
+    {
+        match self {
+            Listener::Report { report } => report.wanted_line(event, ports),
+            Listener::Order { .. } => None,
+        }
+    }
+
+    /// Hears the next event of an accepted trace, with the ports before it, its `wanted_line`, and
     /// memory of that line before it.
     ///
     /// # Errors
     ///
     /// `NoMemory` where there is none for what is kept of the event. There is no more use of what
     /// hears then.
+    #[inline(always)]
     pub fn hear(
         &mut self,
         event: &Event,
@@ -123,13 +140,15 @@ impl Listener {
     ) -> Result<(), NoMemory>
         ensures stands { (h : Header) (past : Trace)
             → Tell ports.now (record { header = h; past = past })
-            → line ≡ told_line h past event.now → Stands self.old h past
-            → IsNext h past event.now memory → length past < 1048576 → OnOk result (Stands self.new h (event.now ∷ past)) }
+            → line ≡ wanted_line self.old h past event.now
+            → ((l : ℕ) → line ≡ Some l → memory ≡ memory_of past l) → Stands self.old h past
+            → IsAccepted h (event.now ∷ past) → length past < 1048576
+            → OnOk result (Stands self.new h (event.now ∷ past)) }
         ensures account { account_of self.new ≡ account_of self.old }
     {
         match self {
             Listener::Report { report } => report.hear(event, ports, line, memory),
-            Listener::Order { maker } => hear_order(maker, event, ports),
+            Listener::Order { maker } => hear_order(maker, *event, ports),
         }
     }
 

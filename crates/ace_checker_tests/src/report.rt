@@ -4,7 +4,7 @@ use ace_codes::LineState;
 use ace_event::{Channel, Event, Header, Line};
 use ace_io::{Failed, MemSink};
 use ace_portck::PortCheck;
-use ace_report::{Report, told_line};
+use ace_report::Report;
 use std::alloc::Global;
 use std::test::Fail;
 
@@ -105,38 +105,43 @@ fn report(alloc: Global) -> Result<Report, Fail> {
     let mut ports = PortCheck::new(alloc, TWO_ACE)?;
     let mut report = Report::new(alloc, TWO_ACE)?;
     for event in EVENTS {
-        report.hear(event, &ports, told_line(event, &ports), ZERO)?;
+        let line = report.wanted_line(event, &ports);
+        report.hear(event, &ports, line, ZERO)?;
         ports.hear(event);
     }
     Ok(report)
 }
 
-/// Of which line the event of this number tells.
-fn told(alloc: Global, count: usize) -> Result<Option<u32>, Fail> {
+/// Of which line the report wants memory at the event of this number.
+fn wanted(alloc: Global, count: usize) -> Result<Option<u32>, Fail> {
     let mut ports = PortCheck::new(alloc, TWO_ACE)?;
+    let mut report = Report::new(alloc, TWO_ACE)?;
     for (number, event) in EVENTS.iter().enumerate() {
+        let line = report.wanted_line(event, &ports);
         if number == count {
-            return Ok(told_line(event, &ports));
+            return Ok(line);
         }
+        report.hear(event, &ports, line, ZERO)?;
         ports.hear(event);
     }
     Ok(None)
 }
 
 #[test]
-fn tells_lines(rt: HostRuntime) -> Result<(), Fail> {
+fn wants_memory_of_lines(rt: HostRuntime) -> Result<(), Fail> {
     let cases = [
         (0, Some(64)),
         (1, None),
-        (2, Some(64)),
-        (7, Some(64)),
+        (2, None),
+        (7, None),
+        (9, None),
         (10, Some(64)),
         (11, Some(0)),
         (12, None),
-        (16, Some(0)),
+        (16, None),
     ];
     for (count, line) in cases {
-        assert_eq!(rt; told(rt.alloc(), count)?, line, "event {count}");
+        assert_eq!(rt; wanted(rt.alloc(), count)?, line, "event {count}");
     }
     Ok(())
 }

@@ -3,4 +3,5 @@ pub mod Counted
 pub mod Order
 pub mod Texts
 pub mod StoredBytes
+pub mod HeardLines
 pub mod Tallies

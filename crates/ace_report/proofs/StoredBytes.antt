@@ -14,7 +14,7 @@ use Rattle.ace_model.specs.Copies.{memory_of}
 use Rattle.ace_model.specs.Transactions.{is_line, is_on, outstanding, write_kind}
 use Rattle.ace_model.specs.Writes.{burst_of}
 use Rattle.ace_model.specs.WriteRules.{may_write_memory}
-use Rattle.ace_model.specs.Values.{burst_strobe, burst_line, stores_data, discards_data, store_of, discard_of, store_at, full_line}
+use Rattle.ace_model.specs.Values.{burst_strobe, burst_line, stores_data, discards_data, store_of, discard_of, store_at}
 use Rattle.ace_model.proofs.General.Options.{is_some_and-is}
 use Rattle.ace_model.proofs.Rules.Keeps.{accepted_keeps}
 use Rattle.ace_model.proofs.Trace.Issued.{outstanding-named}
@@ -22,8 +22,8 @@ use Rattle.ace_model.proofs.Grants.Begins.{may_of}
 use Rattle.ace_model.proofs.Grants.Granted.{data_may}
 use Rattle.ace_model.proofs.Values.Stores.{stores_write, stores_kind}
 use Rattle.ace_portck.specs.Targets.{data_in, data_of_write, line_in, line_of, progress_of, transaction_in}
-use Rattle.ace_report.specs.Heard.{bytes_of, bytes_to, written_bytes, discarded_bytes}
-use Rattle.ace_report.specs.Next.{IsNext}
+use Rattle.ace_report.specs.Heard.{bytes_of, bytes_to, whole, written_bytes}
+use Rattle.ace_report.specs.Next.{IsNext, discarded_line, wanted_line}
 
 no_bytes : (o : Option ℕ) (l : ℕ) → bytes_to o None l ≡ None
 no_bytes None l = refl
@@ -70,19 +70,20 @@ written_are h past p c i line before n l =
     let named = outstanding-named h past p c i z.0 z.1 in
     rw (z.1, named) (write_bytes h past z.0 l z.2)
 
-discard_bytes : (past : Trace) (x : Transaction) (before : Line) (l : ℕ) → (is_on x l ≡ true → before ≡ memory_of past l)
-    → bytes_to (if is_line x then Some x.addr else None) (if discards_data x then Some (record { strobe = full_line; line = before }) else None) l
+discard_bytes : (past : Trace) (x : Transaction) (before : Line) (l : ℕ)
+    → (discards_data x ≡ true → is_on x l ≡ true → before ≡ memory_of past l)
+    → bytes_to (if discards_data x then (if is_line x then Some x.addr else None) else None) (Some (whole before)) l
     ≡ option_map bytes_of (discard_of past l x)
 discard_bytes past x before l memory =
     elim (cases_Bool (discards_data x)) [
-      | inr f ↦ rw f (no_bytes (if is_line x then Some x.addr else None) l)
+      | inr f ↦ rw f refl
       | inl s ↦ elim (cases_Bool (is_line x)) [
         | inr g ↦ rw (s, g) refl
         | inl t ↦ elim (cases_Bool (nat_eq x.addr l)) [
           | inr g ↦ rw (s, t, g) refl
           | inl e ↦
               let on : is_on x l ≡ true = rw (t, e) refl in
-              rw (s, t, e) (ap (λ (v : Line). Some (record { strobe = full_line; line = v })) (memory on))
+              rw (s, t, e) (ap (λ (v : Line). Some (whole v)) (memory s on))
         ]
       ]
     ]
@@ -94,10 +95,11 @@ on_line x l on =
 
 -- the R of a MakeInvalid
 pub discarded_are : (h : Header) (past : Trace) (p i resp : ℕ) (last : Bool) (word : ℕ) (before : Line) → IsNext h past (R p i resp last word) before
-    → (l : ℕ) → bytes_to (line_in h past (R p i resp last word)) (discarded_bytes (transaction_in h past (R p i resp last word)) before) l ≡ option_map bytes_of (store_at past (R p i resp last word) l)
+    → (l : ℕ) → bytes_to (wanted_line h past (R p i resp last word)) (Some (whole before)) l ≡ option_map bytes_of (store_at past (R p i resp last word) l)
 discarded_are h past p i resp last word before n l =
     let m = may_of h past p i resp last word n.accepted in
-    let line : line_in h past (R p i resp last word) ≡ (if is_line m.one then Some m.one.addr else None) =
-    ap (λ o. line_of (option_map (progress_of h past) o)) m.out in
-    let memory : is_on m.one l ≡ true → before ≡ memory_of past l = λ on. n.memory l (line ∙ on_line m.one l on) in
+    let line : wanted_line h past (R p i resp last word) ≡ (if discards_data m.one then (if is_line m.one then Some m.one.addr else None) else None) =
+    ap (λ o. discarded_line (option_map (progress_of h past) o)) m.out in
+    let memory : discards_data m.one ≡ true → is_on m.one l ≡ true → before ≡ memory_of past l =
+    λ s on. n.memory l (line ∙ rw s (on_line m.one l on)) in
     rw (m.out, m.named) (discard_bytes past m.one before l memory)

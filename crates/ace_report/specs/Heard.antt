@@ -82,11 +82,9 @@ bytes_to (Some line) bytes l = if line == l then bytes else None
 abbrev pub written_bytes : Option Progress → Option WriteData → Option WriteData
 written_bytes x burst = if is_some_and x (λ y. stores_data y.transaction) then burst else None
 
--- what memory has, where the transaction of an R is a MakeInvalid
-abbrev pub discarded_bytes : Option Progress → Line → Option WriteData
-discarded_bytes x before =
-    if is_some_and x (λ y. discards_data y.transaction)
-    then Some (record { strobe = full_line; line = before }) else None
+-- all bytes of the line
+abbrev pub whole : Line → WriteData
+whole line = record { strobe = full_line; line = line }
 
 -- the tally with the store, if there is one
 abbrev pub stored : Option WriteData → LineTally → LineTally

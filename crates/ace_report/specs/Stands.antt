@@ -14,7 +14,6 @@ pub record Stands (r : Report) (h : Header) (past : Trace) : Type 0 where
   pub is_header : IsHeader h
   pub accepted : IsAccepted h past
   pub few : length past < 2 ^ 64 - 1
-  pub events : r.events ≡ length past
   pub len : length r.ports.items ≡ h.ports
   pub ports : PortsStand past r.ports.items
   pub lines : LinesStand past r.lines

@@ -10,7 +10,6 @@ mod stores;
 mod tally;
 mod text;
 
-pub use lines::told_line;
 pub use put::{give_over, make_room};
 pub use report::Report;
 pub use text::push_count;

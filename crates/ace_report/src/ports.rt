@@ -24,6 +24,7 @@ pub(crate) fn no_counts(alloc: Global, ports: u8) -> Result<Vec<PortTally>, NoMe
 }
 
 /// The tally of the event's port with the event.
+#[inline(always)]
 fn counted(tally: PortTally, event: &Event) -> PortTally
     ensures { result ≡ counted event.now tally }
 {
@@ -49,6 +50,7 @@ fn counted(tally: PortTally, event: &Event) -> PortTally
 }
 
 /// The port of an event that is counted.
+#[inline(always)]
 fn counted_port(event: &Event) -> Option<u8>
     ensures { result ≡ counted_port event.now }
 {
@@ -62,6 +64,7 @@ fn counted_port(event: &Event) -> Option<u8>
 }
 
 /// Counts the event at its port.
+#[inline(always)]
 pub(crate) fn count(ports: &mut [PortTally], event: &Event)
     ensures len { length ports.new ≡ length ports.old }
     ensures ports { (past : Trace) → length past < 2 ^ 64 - 2 → PortsStand past ports.old → PortsStand (event.now ∷ past) ports.new }

@@ -1,6 +1,6 @@
 //! The report, as it counts an accepted trace event by event.
 
-use crate::lines::hear_line;
+use crate::lines::{hear_line, wanted_line};
 use crate::loads::hear_load;
 use crate::ports::{count, no_counts};
 use crate::put::put_all;
@@ -16,7 +16,6 @@ use std::collections::BTreeMap;
 #[derive(Drop)]
 pub struct Report {
     pub(crate) header: Header,
-    pub(crate) events: u64,
     pub(crate) ports: Vec<PortTally>,
     pub(crate) lines: BTreeMap<u32, LineTally>,
     pub(crate) loads: Vec<Load>,
@@ -30,7 +29,7 @@ impl Report {
     ghost use Rattle.ace_io.specs.Faults.{HasCause};
     ghost use Rattle.ace_model.specs.Trace.{Trace};
     ghost use Rattle.ace_portck.specs.Stands.{Stands as Tell};
-    ghost use Rattle.ace_report.specs.Next.{told_line};
+    ghost use Rattle.ace_report.specs.Next.{wanted_line};
     ghost use Rattle.ace_report.specs.Put.{AppendsPart};
     ghost use Rattle.ace_report.specs.Report.{report_text};
     ghost use Rattle.ace_report.specs.Stands.{Stands, IsNext, AddsEntry};
@@ -47,7 +46,6 @@ impl Report {
         match no_counts(alloc, header.ports) {
             Ok(ports) => Ok(Report {
                 header,
-                events: 0,
                 ports,
                 lines: BTreeMap::new(alloc),
                 loads: Vec::new(alloc),
@@ -56,12 +54,24 @@ impl Report {
         }
     }
 
-    /// Counts the next event of an accepted trace, with the ports before it, its `told_line`, and
+    /// The line of whose memory before the event the report has to be told: that which an AR or AW
+    /// names first, or that of a MakeInvalid at its R. The ports are those before the event.
+    #[inline(always)]
+    pub fn wanted_line(&self, event: &Event, ports: &PortCheck) -> Option<u32>
+        ensures { (h : Header) (past : Trace)
+            → Tell ports.now (record { header = h; past = past }) → Stands self.now h past
+            → result ≡ wanted_line h past event.now }
+    {
+        wanted_line(&self.lines, event, ports)
+    }
+
+    /// Counts the next event of an accepted trace, with the ports before it, its `wanted_line`, and
     /// memory of that line before it.
     ///
     /// # Errors
     ///
     /// `NoMemory` where there is none for a load, or for a line that no transaction has named before. The report is of no use then.
+    #[inline(always)]
     pub fn hear(
         &mut self,
         event: &Event,
@@ -71,15 +81,14 @@ impl Report {
     ) -> Result<(), NoMemory>
         ensures stands { (h : Header) (past : Trace)
             → Tell ports.now (record { header = h; past = past })
-            → line ≡ told_line h past event.now → Stands self.old h past
+            → line ≡ wanted_line h past event.now → Stands self.old h past
             → IsNext h past event.now memory → OnOk result (Stands self.new h (event.now ∷ past)) }
         ensures cause { OnErr result ((h : Header) (past : Trace)
-            → line ≡ told_line h past event.now → Stands self.old h past
+            → line ≡ wanted_line h past event.now → Stands self.old h past
             → AddsEntry h past event.now) }
     {
-        self.events = self.events.saturating_add(1);
         count(&mut self.ports, event);
-        match hear_load(&mut self.loads, &self.lines, self.events, event) {
+        match hear_load(&mut self.loads, &self.lines, ports.place(), event) {
             Ok(()) => hear_line(&mut self.lines, event, ports, line, memory),
             Err(none) => Err(none),
         }

@@ -1,5 +1,5 @@
 -- One more event is followed.
-use Rattle.std.proofs.Common.{◌≡◌, ◌<◌, ◌-◌, ◌^◌, true, false, List, ◌∷◌, Option, Some, None, Result, Ok, Err, IfOk, IfNone, IfSome, length, refl, arith}
+use Rattle.std.proofs.Common.{◌≡◌, ◌<◌, ◌-◌, ◌^◌, true, false, List, ◌∷◌, Option, Some, None, Result, Ok, Err, IfOk, IfNone, IfSome, option_map, length, refl, arith}
 use Rattle.std.specs.Prelude.{is_some}
 use Rattle.ace_event.specs.declared.event.Event.{Event}
 use Rattle.ace_event.specs.declared.header.Header.{Header}
@@ -13,6 +13,8 @@ use Rattle.ace_check.specs.declared.checker.Step.TheVariants.{Fine, Broken}
 use Rattle.ace_account.specs.Listeners as listening
 use Rattle.ace_account.specs.declared.listener.Listener.{Listener}
 use Rattle.ace_top.specs.declared.answer.Answer.{Answer}
+use Rattle.ace_top.specs.declared.answer.Answer.TheVariants.{NoMemory}
+use Rattle.ace_grammar.specs.Reading.{most_events}
 use Rattle.ace_top.specs.declared.follow.Follower.{Follower}
 use Rattle.ace_top.specs.Follow.{Follows, HasTaken, fed_answer}
 use Rattle.ace_top.specs.Progress.{IsStop, StopsAt}
@@ -45,33 +47,43 @@ fed_stop (Ok (Broken index rule)) = tt
 fed_stop (Err lacks.NoMemory) = tt
 fed_stop (Err lacks.TooManyLines) = tt
 
--- the checker stands for one event more, and what hears it has heard it
-pub both_follow : (stop : Option Answer) (c : Checker) (r : Listener) (h : Header) (past : List Event) (e : Event) → IsAccepted h past
-    → IfNone stop ((least_broken h past e ≡ None) × (check.goes_over past e ≡ false)) → IfNone stop (check.Stands c h (e ∷ past) None) → IfNone stop (listening.Stands r h (e ∷ past))
-    → IfNone stop (Follows (record { checker = c; listener = Some r; stop = stop }) h (e ∷ past))
-both_follow None c r h past e accepted fine stands heard = record { checker = stands; listener = heard; accepted = (accepted, fine.0); goes_on = refl }
-both_follow (Some answer) c r h past e accepted fine stands heard = tt
-
--- and the checker alone
-one_follows : (stop : Option Answer) (c : Checker) (r : Option Listener) (h : Header) (past : List Event) (e : Event) → r ≡ None → IsAccepted h past
-    → IfNone stop ((least_broken h past e ≡ None) × (check.goes_over past e ≡ false)) → IfNone stop (check.Stands c h (e ∷ past) None)
-    → IfNone stop (Follows (record { checker = c; listener = r; stop = stop }) h (e ∷ past))
-one_follows None c r h past e none accepted fine stands = record { checker = stands; listener = rw none tt; accepted = (accepted, fine.0); goes_on = refl }
-one_follows (Some answer) c r h past e none accepted fine stands = tt
-
 pub none_is : {A : Type 0} (o : Option A) → is_some o ≡ false → o ≡ None
 none_is None none = refl
 none_is (Some x) none = absurd cc
 
-pub alone_taken : (f : Follower) (e : Event) (c : Checker) (stop : Option Answer) → f.listener ≡ None
+-- the checker stands for one event more, and what hears it has heard it
+both_follow : (stop : Option Answer) (c : Checker) (r : Option Listener) (h : Header) (past : List Event) (e : Event) → IsAccepted h past
+    → IfNone stop ((least_broken h past e ≡ None) × (check.goes_over past e ≡ false)) → IfNone stop (check.Stands c h (e ∷ past) None)
+    → (IsAccepted h (e ∷ past) → IfSome r (λ l. listening.Stands l h (e ∷ past)))
+    → IfNone stop (Follows (record { checker = c; listener = r; stop = stop }) h (e ∷ past))
+both_follow None c r h past e accepted fine stands heard =
+    let both : IsAccepted h (e ∷ past) = (accepted, fine.0) in
+    record { checker = stands; listener = heard both; accepted = both; goes_on = refl }
+both_follow (Some answer) c r h past e accepted fine stands heard = tt
+
+pub one_taken : (f : Follower) (e : Event) (c : Checker) (r : Option Listener) (stop : Option Answer)
+    → ((h : Header) (past : List Event) → check.Stands f.checker h past None → IfSome f.listener (λ l. listening.Stands l h past) → IsAccepted h (e ∷ past)
+    → length past < most_events → IfSome r (λ l. listening.Stands l h (e ∷ past))) → option_map listening.account_of r ≡ option_map listening.account_of f.listener
     → ((h : Header) (past : List Event) → check.Stands f.checker h past None → IfNone stop ((least_broken h past e ≡ None) × (check.goes_over past e ≡ false)))
     → ((h : Header) (past : List Event) → check.Stands f.checker h past None → length past < 2 ^ 64 - 2 → IfNone stop (check.Stands c h (e ∷ past) None))
     → ((h : Header) (past : List Event) → check.Stands f.checker h past None → IfSome stop (StopsAt h past e)) → IfSome stop IsStop
-    → HasTaken f e (record { checker = c; listener = f.listener; stop = stop })
-alone_taken f e c stop none fine stands stops is_stop = record {
+    → HasTaken f e (record { checker = c; listener = r; stop = stop })
+one_taken f e c r stop heard same fine stands stops is_stop = record {
   fine = λ h past s. fine h past s.checker;
-  follows = λ h past s few. one_follows stop c f.listener h past e none s.accepted (fine h past s.checker) (stands h past s.checker (omega (arith, few)));
+  follows = λ h past s few. both_follow stop c r h past e s.accepted (fine h past s.checker) (stands h past s.checker (omega (arith, few)))
+      (λ accepted. heard h past s.checker s.listener accepted few);
   stops = λ h past s. stops h past s.checker;
   stop = is_stop;
-  same_account = refl;
+  same_account = same;
+}
+
+-- there was no memory to hear it
+pub none_taken : (f : Follower) (e : Event) (c : Checker) (r : Option Listener) → option_map listening.account_of r ≡ option_map listening.account_of f.listener
+    → HasTaken f e (record { checker = c; listener = r; stop = Some NoMemory })
+none_taken f e c r same = record {
+  fine = λ h past s. tt;
+  follows = λ h past s few. tt;
+  stops = λ h past s. tt;
+  stop = tt;
+  same_account = same;
 }

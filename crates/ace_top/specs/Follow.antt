@@ -49,6 +49,10 @@ pub record HasTaken (old : Follower) (event : Event) (new : Follower) : Type 0 w
   pub stop : IfSome new.stop IsStop
   pub same_account : asked_of new ≡ asked_of old
 
+-- the follower with the answer that ends its check, if one does
+abbrev pub ended_by : Follower → Option Answer → Follower
+ended_by f stop = record { checker = f.checker; listener = f.listener; stop = stop }
+
 -- The same, where nothing had ended the check before.
 abbrev pub TakesOn : Follower → Event → Follower → Type 0
 TakesOn old event new = (old.stop ≡ None) × HasTaken old event new

@@ -157,9 +157,9 @@ fn check_events<S: Source>(follower: &mut Follower, reader: &mut Reader<S>) -> R
     ending(reader, &mut event)
 }
 
-/// Follows the next events while they are read, as far as that can be, if no account is asked for.
+/// Follows the next events while they are read, as far as that can be.
 #[inline(always)]
-#[tactic(auto, using(crate::proofs::Handed::all_front, crate::proofs::ProgressLemmas::no_front))]
+#[tactic(auto, using(crate::proofs::Handed::all_front))]
 fn follow_at_once<S: Source>(follower: &mut Follower, reader: &mut Reader<S>)
     ensures same_source { (source_of reader.new).ghost_name ≡ (source_of reader.old).ghost_name }
     ensures source { (source_of reader.new).now ≡ (source_of reader.old).now }
@@ -176,9 +176,7 @@ fn follow_at_once<S: Source>(follower: &mut Follower, reader: &mut Reader<S>)
         → HasComeTo follower.new.stop follower.new (count_of reader.new) (header_of reader.old)
         start (unread S.left reader.new) }
 {
-    if follower.is_brief() {
-        reader.hands_all_over(follower);
-    }
+    reader.hands_all_over(follower);
 }
 
 /// How the reading of a trace has ended: at its end, or by an error.

@@ -1,5 +1,5 @@
 // Follows a trace event by event: checks it, and lets it be heard where an account is asked for.
-ghost use Rattle.std.specs.Prelude.{◌≡◌, ◌<◌, ◌-◌, ◌^◌, ◌∷◌, ℕ, Option, None, Some, [], false, not, is_some, length, IfNone, IfSome};
+ghost use Rattle.std.specs.Prelude.{◌≡◌, ◌<◌, ◌-◌, ◌^◌, ◌∷◌, ℕ, Option, None, Some, [], false, length, option_map, IfNone, IfSome, OnOk};
 ghost use Rattle.ace_event.specs.Ports.{IsHeader};
 ghost use Rattle.ace_event.specs.declared.header.Header.{Header};
 ghost use Rattle.ace_model.specs.declared.breaks.Break.{Break};
@@ -11,7 +11,7 @@ ghost use Rattle.ace_check.specs.Run as check;
 ghost use Rattle.ace_account.specs.Accounts.{HasPut, HasPutCause};
 ghost use Rattle.ace_account.specs.Listeners as listening;
 ghost use Rattle.ace_grammar.specs.Reading.{most_events};
-ghost use Rattle.ace_top.specs.Follow.{Follows, HasTaken, TakesOn, asked_of, fed_answer};
+ghost use Rattle.ace_top.specs.Follow.{Follows, HasTaken, TakesOn, asked_of, ended_by, fed_answer};
 ghost use Rattle.ace_top.specs.Progress.{IsStop, StopsAt};
 
 use crate::answer::Answer;
@@ -19,8 +19,7 @@ use ace_account::{Account, AccountErr, Listener};
 use ace_check::{CheckErr, Checker, Step};
 use ace_event::{Event, Header, Line};
 use ace_grammar::Taker;
-use ace_io::Sink;
-use ace_report::told_line;
+use ace_io::{NoMemory, Sink};
 use std::alloc::Global;
 
 /// The answer that ends the check, if the checker doesn't say that the event is fine.
@@ -62,6 +61,7 @@ fn feed(checker: &mut Checker, event: &Event) -> Option<Answer>
 }
 
 /// Memory of the line, if there is one.
+#[inline(always)]
 fn memory_at(checker: &Checker, line: Option<u32>) -> Line
     ensures { (h : Header) (past : Trace) (b : Option Break) (l : ℕ) → check.Stands checker.now h past b → line ≡ Some l
         → result ≡ memory_of past l }
@@ -72,28 +72,22 @@ fn memory_at(checker: &Checker, line: Option<u32>) -> Line
     }
 }
 
-/// Checks the next event and lets it be heard. An answer ends both.
-fn hear(checker: &mut Checker, listener: &mut Listener, event: &Event) -> Option<Answer>
-    ensures fine { (h : Header) (past : Trace) → check.Stands checker.old h past None
-        → IfNone result ((least_broken h past event.now ≡ None) × (goes_over past event.now ≡ false)) }
-    ensures stands { (h : Header) (past : Trace) → check.Stands checker.old h past None → length past < 2 ^ 64 - 2
-        → IfNone result (check.Stands checker.new h (event.now ∷ past) None) }
-    ensures heard { (h : Header) (past : Trace) → check.Stands checker.old h past None
-        → listening.Stands listener.old h past → IsAccepted h past → length past < most_events
-        → IfNone result (listening.Stands listener.new h (event.now ∷ past)) }
-    ensures same_account { listening.account_of listener.new ≡ listening.account_of listener.old }
-    ensures stops { (h : Header) (past : Trace) → check.Stands checker.old h past None → IfSome result (StopsAt h past event.now) }
-    ensures stop { IfSome result IsStop }
+/// Lets the next event be heard, if an account is asked for. The checker is that before it.
+#[inline(always)]
+fn hear(checker: &Checker, listener: &mut Option<Listener>, event: &Event) -> Result<(), NoMemory>
+    ensures heard { (h : Header) (past : Trace) → check.Stands checker.now h past None
+        → IfSome listener.old (λ l. listening.Stands l h past) → IsAccepted h (event.now ∷ past)
+        → length past < most_events
+        → OnOk result (IfSome listener.new (λ l. listening.Stands l h (event.now ∷ past))) }
+    ensures same_account { option_map listening.account_of listener.new ≡ option_map listening.account_of listener.old }
 {
-    let line = told_line(event, checker.ports());
-    let memory = memory_at(checker, line);
-    let heard = listener.hear(event, checker.ports(), line, memory);
-    match feed(checker, event) {
-        None => match heard {
-            Ok(()) => None,
-            Err(_) => Some(Answer::NoMemory),
-        },
-        Some(answer) => Some(answer),
+    match listener {
+        Some(listener) => {
+            let line = listener.wanted_line(event, checker.ports());
+            let memory = memory_at(checker, line);
+            listener.hear(event, checker.ports(), line, memory)
+        }
+        None => Ok(()),
     }
 }
 
@@ -134,15 +128,24 @@ impl Follower {
         }
     }
 
-    /// Follows one more event of the trace, of as many as a trace may have. It ends the check
-    /// where it breaks a rule, or names a line too many, or there is no memory.
+    /// Follows one more event of the trace, of as many as a trace may have. An answer ends the
+    /// check: the event breaks a rule, or names a line too many, or there is no memory.
+    #[inline(always)]
+    fn follow_one(&mut self, event: &Event) -> Option<Answer>
+        ensures taken { HasTaken self.old event.now (ended_by self.new result) }
+        ensures same_stop { self.new.stop ≡ self.old.stop }
+    {
+        match hear(&self.checker, &mut self.listener, event) {
+            Ok(()) => feed(&mut self.checker, event),
+            Err(NoMemory) => Some(Answer::NoMemory),
+        }
+    }
+
+    /// Follows one more event of the trace, and keeps the answer that ends the check, if one does.
     pub fn take(&mut self, event: &Event)
         ensures { HasTaken self.old event.now self.new }
     {
-        match &mut self.listener {
-            Some(listener) => self.stop = hear(&mut self.checker, listener, event),
-            None => self.stop = feed(&mut self.checker, event),
-        }
+        self.stop = self.follow_one(event);
     }
 
     /// The answer that ended the check, if one did.
@@ -151,14 +154,6 @@ impl Follower {
         ensures { result ≡ self.now.stop }
     {
         self.stop
-    }
-
-    /// Whether no account is asked for: then events may be handed over.
-    #[inline(always)]
-    pub fn is_brief(&self) -> bool
-        ensures { result ≡ not (is_some self.now.listener) }
-    {
-        self.listener.is_none()
     }
 
     /// How many events were followed.
@@ -172,13 +167,13 @@ impl Follower {
 impl Taker for Follower {
     ghost took = { TakesOn };
 
-    /// Follows one more event, where no account is asked for and nothing has ended the check.
+    /// Follows one more event, where nothing has ended the check.
     #[inline(always)]
     fn takes(&mut self, event: &Event) -> bool {
-        if self.listener.is_some() || self.stop.is_some() {
+        if self.stop.is_some() {
             return false;
         }
-        if let Some(answer) = feed(&mut self.checker, event) {
+        if let Some(answer) = self.follow_one(event) {
             self.stop = Some(answer);
         }
         true
