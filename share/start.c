@@ -1,0 +1,38 @@
+/* What stands before `main` in the program that tools/release links with musl; no proof covers it.
+ *
+ * It ends the program with a message and status 126 where the processor is older than x86-64-v2, for which the kit compiles. And it calls
+ * the initialisers again with the words of the command line, which the kit's args.c wants and musl doesn't hand over. Compiled for any
+ * x86-64 processor, without header files.
+ */
+extern long write(int file, const void *bytes, unsigned long count);
+extern void _exit(int status) __attribute__((noreturn));
+typedef void initialiser(int count, char **words, char **environment);
+extern initialiser *const __init_array_start[], *const __init_array_end[];
+int __real_main(int count, char **words, char **environment);
+
+/* The word that the processor tells in ECX under a leaf of CPUID, or 0 where it has no such leaf. */
+static unsigned told(unsigned leaf) {
+    unsigned most, rest[3], word;
+    __asm__("cpuid" : "=a"(most), "=b"(rest[0]), "=c"(rest[1]), "=d"(rest[2]) : "0"(leaf & 0x80000000u), "2"(0));
+    if (most < leaf)
+        return 0;
+    __asm__("cpuid" : "=a"(most), "=b"(rest[0]), "=c"(word), "=d"(rest[2]) : "0"(leaf), "2"(0));
+    return word;
+}
+
+/* Whether the processor has SSE3, SSSE3, CMPXCHG16B, SSE4.1, SSE4.2 and POPCNT (leaf 1), and LAHF (leaf 0x80000001). */
+static int is_new_enough(void) {
+    const unsigned wanted = 1u << 0 | 1u << 9 | 1u << 13 | 1u << 19 | 1u << 20 | 1u << 23;
+    return (told(1) & wanted) == wanted && (told(0x80000001u) & 1);
+}
+
+int __wrap_main(int count, char **words, char **environment) {
+    static const char refusal[] = "ace: this processor is too old: ace needs x86-64-v2 (SSE4.2, POPCNT and what is before them)\n";
+    if (!is_new_enough()) {
+        write(2, refusal, sizeof refusal - 1);
+        _exit(126);
+    }
+    for (initialiser *const *each = __init_array_start; each < __init_array_end; each++)
+        (*each)(count, words, environment);
+    return __real_main(count, words, environment);
+}
