@@ -1,8 +1,8 @@
 /* What stands before `main` in the program that tools/release links with musl; no proof covers it.
  *
  * It ends the program with a message and status 126 where the processor is older than x86-64-v2, for which the kit compiles. And it calls
- * the initialisers again with the words of the command line, which the kit's args.c wants and musl doesn't hand over. Compiled for any
- * x86-64 processor, without header files.
+ * the initialisers again, with the words of the command line. The kit's C has one, which keeps them; musl has called it before with none,
+ * and what it kept then is overwritten. This is compiled for any x86-64 processor, as musl is, and without header files.
  */
 extern long write(int file, const void *bytes, unsigned long count);
 extern void _exit(int status) __attribute__((noreturn));
