@@ -20,6 +20,24 @@ static unsigned told(unsigned leaf) {
     return word;
 }
 
+/* What the program's own test of the processor asks of glibc, which musl hasn't: the words of a leaf of CPUID, the third of which is that of
+ * ECX. It asks for leaf 1 by the number 0, and for leaf 0x80000001 by 2. */
+struct leaf {
+    unsigned of_processor[4], active[4];
+};
+
+const struct leaf *__x86_get_cpuid_feature_leaf(unsigned number) {
+    static struct leaf leaves[2];
+    struct leaf *it = &leaves[number == 2];
+    it->active[2] = told(number == 2 ? 0x80000001u : 1);
+    return it;
+}
+
+/* The name by which it writes that the processor is too old. */
+long __write(int file, const void *bytes, unsigned long count) {
+    return write(file, bytes, count);
+}
+
 /* Whether the processor has SSE3, SSSE3, CMPXCHG16B, SSE4.1, SSE4.2 and POPCNT (leaf 1), and LAHF (leaf 0x80000001). */
 static int is_new_enough(void) {
     const unsigned wanted = 1u << 0 | 1u << 9 | 1u << 13 | 1u << 19 | 1u << 20 | 1u << 23;
