@@ -1,7 +1,7 @@
 // Checks a trace, event by event, as it is read, and gives an account of it where one is asked for.
 ghost use Rattle.std.specs.Prelude.{◌≡◌, ◌≤◌, ℕ, List, [], Option, None, false, IfSome, IfOk, IfErr, OnOk};
 ghost use Rattle.ace_grammar.specs.Errors.{LeavesNothing, TakesFront};
-ghost use Rattle.ace_grammar.specs.Reader.{source_of, unread, header_of, count_of, last_answer, lasting, given};
+ghost use Rattle.ace_grammar.specs.Reader.{source_of, unread, header_of, most_of, count_of, last_answer, lasting, given};
 ghost use Rattle.ace_grammar.specs.Reading.{most_events};
 ghost use Rattle.ace_top.specs.Answer.{CarriesOut, HasStatusCause};
 ghost use Rattle.ace_top.specs.ErrorAnswer.{ends_so};
@@ -110,6 +110,7 @@ fn check<S: Source>(
 /// Follows the events of a trace to its end, unless an answer comes before; what followed it to its end.
 fn follow<S: Source>(mut follower: Follower, reader: &mut Reader<S>) -> Result<Follower, Answer>
     requires reads_on { last_answer reader.old ≡ None }
+    requires most { most_of reader.old ≡ most_events }
     requires fresh { count_of reader.old ≡ 0 }
     ensures same_source { (source_of reader.new).ghost_name ≡ (source_of reader.old).ghost_name }
     ensures same_account { IfOk result (λ f. asked_of f ≡ asked_of follower) }
@@ -133,6 +134,7 @@ fn follow<S: Source>(mut follower: Follower, reader: &mut Reader<S>) -> Result<F
 #[tactic(auto, using(crate::proofs::ReaderEnds::ended))]
 fn check_events<S: Source>(follower: &mut Follower, reader: &mut Reader<S>) -> Result<(), Answer>
     requires reads_on { last_answer reader.old ≡ None }
+    requires most { most_of reader.old ≡ most_events }
     requires fresh { count_of reader.old ≡ 0 }
     ensures same_source { (source_of reader.new).ghost_name ≡ (source_of reader.old).ghost_name }
     ensures same_account { asked_of follower.new ≡ asked_of follower.old }
@@ -164,13 +166,14 @@ fn follow_at_once<S: Source>(follower: &mut Follower, reader: &mut Reader<S>)
     ensures same_source { (source_of reader.new).ghost_name ≡ (source_of reader.old).ghost_name }
     ensures source { (source_of reader.new).now ≡ (source_of reader.old).now }
     ensures same_header { header_of reader.new ≡ header_of reader.old }
+    ensures same_most { most_of reader.new ≡ most_of reader.old }
     ensures same_account { asked_of follower.new ≡ asked_of follower.old }
     ensures same_answer { last_answer reader.new ≡ last_answer reader.old }
     ensures further { count_of reader.old ≤ count_of reader.new }
-    ensures few { count_of reader.old ≤ most_events → count_of reader.new ≤ most_events }
+    ensures few { count_of reader.new ≤ most_of reader.new }
     ensures front { TakesFront (unread S.left reader.old) (unread S.left reader.new) }
     ensures stop { IfSome follower.old.stop IsStop → IfSome follower.new.stop IsStop }
-    ensures comes { (start : Option (List ℕ)) → count_of reader.old ≤ most_events
+    ensures comes { (start : Option (List ℕ)) → most_of reader.old ≡ most_events
         → HasComeTo follower.old.stop follower.old (count_of reader.old) (header_of reader.old)
         start (unread S.left reader.old)
         → HasComeTo follower.new.stop follower.new (count_of reader.new) (header_of reader.old)

@@ -1,5 +1,5 @@
 use Rattle.std.proofs.Common.{◌≡◌, ◌-◌, ◌≤◌, [], None}
-use Rattle.ace_grammar.specs.Reader.{source_of, unread, header_of, count_of, last_answer}
+use Rattle.ace_grammar.specs.Reader.{source_of, unread, header_of, most_of, count_of, last_answer}
 use Rattle.ace_grammar.specs.Errors.{TakesFront}
 use Rattle.ace_grammar.specs.Reading.{most_events}
 use Rattle.ace_top.specs.Follow.{Follows, HasCome, asked_of}
@@ -8,6 +8,7 @@ use Rattle.ace_top.proofs.check.check_events.Given as goal
 abbrev pub invariant-events : goal.invariant-events
 invariant-events g l = record {
   reads_on : last_answer l.reader ≡ None;
+  most : most_of l.reader ≡ most_events;
   few : count_of l.reader ≤ most_events;
   same_header : header_of l.reader ≡ header_of l.initial.reader;
   same_source : (source_of l.reader).ghost_name ≡ (source_of l.initial.reader).ghost_name;
