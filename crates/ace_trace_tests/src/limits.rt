@@ -7,9 +7,9 @@ use ace_grammar::{ReadErr, Reader, Reason};
 use ace_io::{HonestSource, Source};
 use std::alloc::Global;
 
-/// Texts of version 1, behind four characters each: the limit, how many events are read, how many of them are handed over at once, and
-/// how the text ends, which is `w` for a whole trace, `f` for more than the limit, and else the number of a line that is no record.
-/// Bars part them.
+/// Texts of version 1, behind four characters each: the limit, how many events are read, how many
+/// of them are handed over at once, and how the text ends, which is `w` for a whole trace, `f` for
+/// more than the limit, and else the number of a line that is no record. Bars part them.
 const FIRST: &str = "000wACE 1\nPORTS AAA\n\
 |000fACE 1\nPORTS AAA\nRK 0 I\n\
 |000fACE 1\nPORTS AAA\nX\
@@ -65,7 +65,8 @@ fn end_of(end: u8, header: Header) -> Result<Header, ReadErr> {
     }
 }
 
-/// Whether so many events are read, so many of them at once where some are asked for at once, and then the text ends so.
+/// Whether so many events are read, so many of them at once where some are asked for at once, and
+/// then the text ends so.
 fn is_read<S: Source>(reader: &mut Reader<S>, count: u8, at_once: Option<u8>, end: u8) -> bool {
     let end = end_of(end, reader.header());
     match at_once {
@@ -91,7 +92,8 @@ fn is_read_within(
     }
 }
 
-/// Whether the text behind the four characters is read as they say, event by event, and with some events at once.
+/// Whether the text behind the four characters is read as they say, event by event, and with some
+/// events at once.
 fn is_so(alloc: Global, row: &[u8]) -> bool {
     match row.split_first_chunk::<4>() {
         Some(([most, count, many, end], text)) => {
