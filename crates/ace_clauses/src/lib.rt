@@ -1,0 +1,7 @@
+//! The clauses of the rules: the parts of a rule in the order in which they are asked, so that an event that breaks a rule is told by
+//! the first that is false.
+#![tactic(auto)]
+
+mod letters;
+
+pub use letters::{ClauseName, Letter};
