@@ -2,6 +2,7 @@
 //! the first that is false.
 #![tactic(auto)]
 
+pub mod laws;
 mod letters;
 
 pub use letters::{ClauseName, Letter};
