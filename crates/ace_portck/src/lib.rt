@@ -25,6 +25,7 @@ mod write_rules;
 pub use acknowledge_rules::{line_of_read, line_of_write};
 pub use address_rules::line_write_kind;
 pub use one_port::OnePort;
+pub use opening::OpeningMemory;
 pub use pending::issued;
 pub use ports::PortCheck;
 pub use response_rules::line_write;

@@ -126,6 +126,7 @@ impl PortCheck {
     ghost use Rattle.ace_model.specs.Transactions.{outstanding};
     ghost use Rattle.ace_portck.specs.Stands.{Stands, HasRoom as HasRoomFor, IsRoomy, MayApply};
     ghost use Rattle.ace_portck.specs.Targets.{Recording, after, progress_of};
+    ghost use Rattle.ace_portck.specs.Opening.{OpeningStands};
     ghost use Rattle.ace_portck.specs.Pending.{pending_of};
     ghost use Rattle.ace_portck.specs.Port.{PortStands};
     ghost use Rattle.ace_event.specs.declared.event.Channel.TheVariants.{Read, Write};
@@ -182,6 +183,20 @@ impl PortCheck {
             ≡ option_map (progress_of r.header r.past) (outstanding r.header r.past port chan id) }
     {
         self.kept(port).transactions.outstanding(chan, id)
+    }
+
+    /// The header of the trace.
+    pub fn header(&self) -> &Header
+        ensures { (r : Recording) → Stands self.now r → result.now ≡ r.header }
+    {
+        &self.header
+    }
+
+    /// How far the trace has opened memory.
+    pub fn opening(&self) -> OpeningMemory
+        ensures { (r : Recording) → Stands self.now r → OpeningStands r.past result }
+    {
+        self.opening
     }
 
     /// How many events came: the place of a transaction that the next one issues.

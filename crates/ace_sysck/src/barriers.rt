@@ -198,7 +198,8 @@ impl Barriers {
         Ok(Barriers { ports })
     }
 
-    fn barrier_of(&self, port: u8) -> Barrier
+    /// The newest barrier of the port.
+    pub(crate) fn barrier_of(&self, port: u8) -> Barrier
         ensures { result ≡ slice_index_or self.now.ports.items port Idle }
     {
         entry_or(&self.ports, port, Barrier::Idle)

@@ -26,6 +26,8 @@ mod syncs;
 mod system;
 mod words;
 
-pub use barriers::OpenPair;
+pub use barriers::{Barrier, OpenPair};
 pub use inboxes::Message;
+pub use messages::PortMessages;
 pub use system::SysCheck;
+pub use words::is_message_word;

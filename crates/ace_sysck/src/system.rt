@@ -2,9 +2,9 @@
 
 ghost use Rattle.std.specs.Prelude.{◌≡◌, Some};
 
-use crate::barriers::{Barriers, OpenPair};
+use crate::barriers::{Barrier, Barriers, OpenPair};
 use crate::inboxes::{Inboxes, Message};
-use crate::messages::Messages;
+use crate::messages::{Messages, PortMessages};
 use crate::monitors::Monitors;
 use crate::registrations::Registrations;
 use crate::results::Results;
@@ -39,9 +39,10 @@ impl SysCheck {
     ghost use Rattle.ace_model.specs.ReadRules.{is_exclusive_okay};
     ghost use Rattle.ace_model.specs.Transactions.{is_ace, outstanding};
     ghost use Rattle.ace_portck.specs.Targets.{Recording, after};
-    ghost use Rattle.ace_sysck.specs.Barriers.{TellsOpenPair};
+    ghost use Rattle.ace_sysck.specs.Barriers.{BarrierStands, TellsOpenPair};
     ghost use Rattle.ace_sysck.specs.declared.inboxes.Message.{Message as Next};
     ghost use Rattle.ace_sysck.specs.Inboxes.{next_message};
+    ghost use Rattle.ace_sysck.specs.Messages.{PortMessagesStand};
     ghost use Rattle.ace_sysck.specs.Registrations.{RegistrationsStand};
     ghost use Rattle.ace_sysck.specs.Stands.{Stands, IsRoomy};
 
@@ -106,6 +107,20 @@ impl SysCheck {
             inboxes,
             syncs,
         })
+    }
+
+    /// What the port has of its newest barrier, while that isn't complete.
+    pub fn barrier(&self, port: u8) -> Barrier
+        ensures { (r : Recording) → Stands self.now r → BarrierStands r.past port result }
+    {
+        self.barriers.barrier_of(port)
+    }
+
+    /// What is kept of the DVM messages that the port issues.
+    pub fn messages_of(&self, port: u8) -> PortMessages
+        ensures { (r : Recording) → Stands self.now r → PortMessagesStand r.past port result }
+    {
+        self.messages.of(port)
     }
 
     /// The barrier pair of the port that isn't complete, if there is one.
