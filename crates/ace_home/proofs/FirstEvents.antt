@@ -147,7 +147,7 @@ module _ (h : Header) (past : Trace) (a : IsAccepted h past) (p : ℕ) (x : Tran
   none-if b true d f = ap (λ v. v && d) f
   none-if b false d f = refl
 
-  without-passed : has_passed_data h past x ≡ false → first_kept h past (passed_burst h past x) ≡ None
+  pub without-passed : has_passed_data h past x ≡ false → first_kept h past (passed_burst h past x) ≡ None
   without-passed f =
       ap (λ b. first_kept h past (if b then memory_write h past x else [])) (none-if (has_passed_data h past x) (is_read x.chan) (not (takes_dirt h past x)) f)
 

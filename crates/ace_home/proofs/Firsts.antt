@@ -17,7 +17,7 @@ use Rattle.ace_home.specs.declared.service.Service.TheVariants as service
 use Rattle.ace_home.specs.Among.{PortSets, has_snoop_among}
 use Rattle.ace_home.specs.Home.{IsOf}
 use Rattle.ace_home.specs.Services.{IsLeastFor, TakesNoneBelow, all_steps, first_kept, may_take, number_of}
-use Rattle.ace_home.specs.Turns.{IsFirst, IsFirstOf, due_by, goes_first, sooner}
+use Rattle.ace_home.specs.Turns.{IsBehind, IsFirst, IsFirstOf, due_by, goes_first, sooner}
 use Rattle.ace_home.proofs.Among.{fewer-snoops}
 use Rattle.ace_home.proofs.FirstEvents.{passed-ungranted, read-no-write, snoop-ungranted, transfer-ungranted, write-no-transfer, write-ungranted}
 
@@ -175,6 +175,13 @@ first-sooner among h past p these those all (Some d) (Some e) one other each =
           subst (IsFirstOf among h past p all) (ap (λ b. Some (if b then d else e)) (sym f))
           (stays-before among h past p those these all (λ y t. elim (each y t) [ inl u ↦ inr u | inr u ↦ inl u ]) e d other one (goes-after d e f))
     ]
+
+-- what is first stays so beside others that go behind it
+pub first-stays : (among : PortSets) (h : Header) (past : Trace) (p : ℕ) (these those all : Transaction → Type 0) (one : Option Due) → IsFirstOf among h past p these one
+    → ((y : Transaction) → those y → IsBehind among h past y one) → ((y : Transaction) → all y → these y ⊎ those y) → IsFirstOf among h past p all one
+first-stays among h past p these those all None none behind each = λ y t. elim (each y t) [ inl u ↦ none y u | inr u ↦ behind y u ]
+first-stays among h past p these those all (Some d) first behind each =
+    stays-first among h past p these those all each d first (λ y t. (behind y t).0) (λ y t older. (behind y t).1 older)
 
 pub sooner-none : (one : Option Due) → sooner one None ≡ one
 sooner-none None = refl

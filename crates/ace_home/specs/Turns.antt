@@ -82,6 +82,13 @@ IsFirstOf among h past p these None =
     (y : Transaction) → these y → TakesNoneBelow among all_steps h past y
 IsFirstOf among h past p these (Some d) = IsFirst among h past p these d
 
+-- No step for the transaction goes before this first one, where there is one.
+abbrev pub IsBehind : PortSets → Header → Trace → Transaction → Option Due → Type 0
+IsBehind among h past x None = TakesNoneBelow among all_steps h past x
+IsBehind among h past x (Some d) =
+    TakesNoneBelow among (number_of d.service) h past x
+    × (x.place < d.transaction.place → may_take among (number_of d.service) h past x ≡ false)
+
 -- the transaction is an outstanding one of the port on a channel before this one: reads come first
 abbrev pub IsBefore : Header → Trace → ℕ → Channel → Transaction → Type 0
 IsBefore h past p Read x = ⊥

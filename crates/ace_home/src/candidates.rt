@@ -116,7 +116,8 @@ fn transfer_of(x: &Progress, resp: u8, reply: &Line) -> Event
 
 /// It hasn't begun, and some answer to its snoops isn't whole, so that it can't begin. That isn't
 /// told of an exclusive one, which begins all the same where it fails. `place` is that of its line.
-fn is_held_up(lines: &LineCheck, place: Option<usize>, x: &Progress) -> bool
+#[inline(always)]
+pub fn is_held_up(lines: &LineCheck, place: Option<usize>, x: &Progress) -> bool
     ensures { (r : Recording) → Stands lines.now r
         → place ≡ place_on lines.now (Some x.now.transaction.addr)
         → result ≡ ((x.now.transfers == 0) && not x.now.transaction.lock
@@ -167,7 +168,8 @@ impl Home {
 
     /// A look that costs little: where it says no, no port may be snooped any more for the granted
     /// transaction of the line at the place, as it has begun or each was snooped.
-    fn may_still_snoop(&self, place: Option<usize>) -> bool
+    #[inline(always)]
+    pub(crate) fn may_still_snoop(&self, place: Option<usize>) -> bool
         ensures { result ≡ false → (plan : Plan) (past : Trace) (p : ℕ) (x : Progresses)
             → IsServed self.now plan past p place x
             → has_snoop plan.header past x.transaction ≡ false }

@@ -15,6 +15,7 @@ ghost use Rattle.ace_home.specs.declared.service.Service.{Service as Step};
 
 use crate::candidates::snoop_for;
 use crate::due::{Due, put_sooner};
+use crate::least::goes_behind;
 use crate::line_engine::LineEngine;
 use crate::service::Service;
 use ace_check::Shares;
@@ -123,7 +124,9 @@ impl Home {
     {
         let queue = self.queue(port, chan);
         for i in 0..queue.len() {
-            self.put_first_with(first, &queue[i], among);
+            if !goes_behind(first, &queue[i].transaction, self.least(&queue[i])) {
+                self.put_first_with(first, &queue[i], among);
+            }
         }
     }
 

@@ -6,6 +6,7 @@ mod candidates;
 mod due;
 mod home;
 pub mod laws;
+mod least;
 mod line_engine;
 mod queues;
 mod service;

@@ -4,9 +4,10 @@ use Rattle.ace_engine.proofs.Listed.{listed-within}
 use Rattle.ace_model.specs.declared.transactions.Transaction.{Transaction}
 use Rattle.ace_portck.specs.Pending.{pending_of}
 use Rattle.ace_portck.specs.Targets.{progress_of}
-use Rattle.ace_home.specs.Turns.{IsBefore, IsFirstOf, IsUpTo, due_by}
-use Rattle.ace_home.proofs.Firsts.{first-alone, first-of-fewer, first-sooner}
+use Rattle.ace_home.specs.Turns.{IsBefore, IsBehind, IsFirstOf, IsUpTo, due_by}
+use Rattle.ace_home.proofs.Firsts.{first-alone, first-of-fewer, first-sooner, first-stays}
 use Rattle.ace_home.proofs.Kept.{listed-tells}
+use Rattle.ace_home.proofs.home.Home.put_due.Goals.{then-not-goes_behind, else-not-goes_behind}
 use Rattle.ace_home.proofs.home.Home.put_due.Goals as goal
 
 pub loop-i-init : goal.loop-i-init
@@ -25,23 +26,33 @@ loop-i-preserved g c = λ plan past stands first.
     let chan = c.args.chan in
     let i = c.loop-i.i in
     let list = c.queue-queue.ensures plan past stands in
-    let t = listed-tells c.args.self.now plan past port chan c.queue-queue.result.now i _ stands list c.loop-i-test.true in
-    let with = c.put_first_with.ensures plan past port t.0 in
     let among = g.F.Among.has c.args.among.now in
-    let one = first-alone among h past port _ with.0 t.0.pending with.1 in
+    let before = c.loop-i.invariant plan past stands first in
     let so_far : Transaction → Type 0 = λ y. IsBefore h past port chan y ⊎ (k : ℕ) × (k < i) × (slice_get (pending_of h past port chan) k ≡ Some y) in
     let with_next : Transaction → Type 0 = λ y. IsBefore h past port chan y ⊎ (k : ℕ) × (k < i + 1) × (slice_get (pending_of h past port chan) k ≡ Some y) in
-    subst (IsFirstOf among h past port with_next) (sym with.2)
-    (first-sooner among h past port so_far (λ y. _ ≡ y) with_next c.loop-i.first (due_by _ with.0) (c.loop-i.invariant plan past stands first) one (λ y at.
+    let each : (x : Transaction) → ((y : Transaction) → slice_get (pending_of h past port chan) i ≡ Some y → x ≡ y) → (y : Transaction) → with_next y → so_far y ⊎ (x ≡ y) = λ x own y at.
     elim at [
       | inl before ↦ inl (inl before)
       | inr listed ↦
           let low = listed.1 in
           elim (cases_eq listed.0 i) [
             | inr earlier ↦ inl (inr (listed.0, omega (arith, low, earlier), listed.2))
-            | inl here ↦ inr (t.1 y (ap (slice_get (pending_of h past port chan)) (sym here) ∙ listed.2))
+            | inl here ↦ inr (own y (ap (slice_get (pending_of h past port chan)) (sym here) ∙ listed.2))
           ]
-    ]))
+    ] in
+    let t = listed-tells c.args.self.now plan past port chan c.queue-queue.result.now i _ stands list c.loop-i-test.true in
+    elim c.if-not-goes_behind.branch [
+      | then-not-goes_behind w ↦
+          let with = w.put_first_with.ensures plan past port t.0 in
+          let one = first-alone among h past port _ with.0 t.0.pending with.1 in
+          subst (IsFirstOf among h past port with_next) (sym (w.first-is ∙ with.2))
+          (first-sooner among h past port so_far (λ y. _ ≡ y) with_next c.loop-i.first (due_by _ with.0) before one (each _ t.1))
+      | else-not-goes_behind w ↦
+          let none = c.least.ensures among plan past port t.0 in
+          let behind = c.goes_behind.ensures w.if-not-goes_behind.false among h past none in
+          subst (IsFirstOf among h past port with_next) (sym w.first-is)
+          (first-stays among h past port so_far (λ y. _ ≡ y) with_next c.loop-i.first before (λ y same. subst (λ z. IsBehind among h past z c.loop-i.first) same behind) (each _ t.1))
+    ]
 
 pub returns : goal.returns
 returns g c = λ plan past stands first.
