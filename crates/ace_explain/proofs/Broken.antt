@@ -24,3 +24,10 @@ module _ (h : Header) (past : Trace) (e : Event) (k : ℕ) (least : least_broken
 pub last_one : (b : Bool) (letter : Letter) → is_some (if b then None else Some letter) ≡ true → (if b then None else Some letter) ≡ Some letter
 last_one true letter some = cc
 last_one false letter some = refl
+
+-- an event that keeps the rule has no clause
+abbrev no_letter : Option Letter
+no_letter = None
+
+pub none_broken : {A : Type 0} → is_some no_letter ≡ true → A
+none_broken some = cc
