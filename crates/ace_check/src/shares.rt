@@ -99,7 +99,7 @@ impl Shares {
 
     /// The granted transaction of the line, whose record stands at the place, is an exclusive store
     /// that failed.
-    pub(crate) fn has_failed_at(&self, place: Option<usize>) -> bool
+    pub fn has_failed_at(&self, place: Option<usize>) -> bool
         ensures { (h : Header) (past : Trace) (line : ℕ) → SharesTell self.now h past
             → place ≡ place_on self.now.lines (Some line) → result ≡ has_failed_on h past line }
     {

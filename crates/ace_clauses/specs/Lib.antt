@@ -5,3 +5,10 @@ pub mod WriteClauses
 pub mod CacheClauses
 pub mod OrderClauses
 pub mod Clauses
+pub mod Rows
+pub mod AddressRows
+pub mod SnoopRows
+pub mod ReadRows
+pub mod WriteRows
+pub mod CacheRows
+pub mod OrderRows

@@ -27,5 +27,8 @@ mod stores;
 mod write_responses;
 mod writes;
 
-pub use kinds::{is_line_read_transaction, is_no_snoop_read, is_no_snoop_write, snoop_of};
+pub use kinds::{
+    has_snoop_code, is_line_read_transaction, is_no_snoop_read, is_no_snoop_write, snoop_of,
+    takes_grant,
+};
 pub use lines::LineCheck;

@@ -1,0 +1,13 @@
+-- What is named of an event that breaks a rule.
+use Rattle.std.specs.Prelude.{ℕ, ◌≡◌, Some}
+use Rattle.ace_event.specs.declared.event.Event.{Event}
+use Rattle.ace_model.specs.Accepted.{least_broken}
+use Rattle.ace_portck.specs.Targets.{Recording}
+use Rattle.ace_clauses.specs.Clauses.{clause_of}
+use Rattle.ace_clauses.specs.declared.letters.Letter.{Letter}
+
+-- Where rule k is the least that the event breaks as the next of the recording, the letter is that
+-- of the clause of rule k which it breaks.
+abbrev pub Names : Recording → Event → ℕ → Letter → Type 0
+Names r e k letter =
+    least_broken r.header r.past e ≡ Some k → clause_of r.header r.past e k ≡ Some letter

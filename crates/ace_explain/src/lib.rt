@@ -1,0 +1,6 @@
+//! The clause of a rule that an event breaks, told by what the checker keeps of the trace before
+//! it.
+#![tactic(auto)]
+
+mod address_clauses;
+mod snoop_clauses;
