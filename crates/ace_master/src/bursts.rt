@@ -47,10 +47,10 @@ fn read_burst(port: &OnePort, kind: ArKind, addr: u32, lock: bool) -> Option<Ask
 fn write_burst(port: &OnePort, kind: AwKind, addr: u32) -> Option<Asking>
     ensures { (h : Header) (past : Trace) (p : ℕ) → OnePortStands port.now h past p → write_bursts h past p kind addr ≡ only result }
 {
+    let id = free_on(port, Channel::Write)?;
     if !keeps_apart(port, kind) {
         return None;
     }
-    let id = free_on(port, Channel::Write)?;
     Some(Asking::One(aw_of(port.port(), id, kind, addr)))
 }
 

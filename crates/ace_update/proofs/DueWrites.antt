@@ -1,8 +1,9 @@
 -- When an outstanding write may have its burst of step 3, and that there is a step exactly where one may.
-use Rattle.std.proofs.Common.{◌≡◌, ℕ, zero, suc, Bool, true, false, not, ◌&&◌, ◌||◌, ◌==◌, nat_lt, if◌then◌else◌, List, [], ◌∷◌, ◌++◌, filter, map, Option, Some, None, is_none, is_some, slice_get, refl, sym, ap, subst, ◌∙◌, inl, inr}
-use Rattle.std.specs.List.{AllByRecursion, list_any}
+use Rattle.std.proofs.Common.{◌≡◌, ℕ, Bool, true, false, not, ◌&&◌, ◌||◌, nat_lt, if◌then◌else◌, [], ◌++◌, map, Option, Some, None, is_none, is_some, slice_get, refl, sym, ap, subst, ◌∙◌}
 use Rattle.std.specs.Option.{option_to_list}
-use Rattle.std.proofs.lemmas.Bool.{and_from, and_parts, cases_Bool, eqb-true, false_from_ne_true}
+use Rattle.std.proofs.lemmas.Bool.{and_from, false_from_ne_true}
+use Rattle.ace_codes.specs.declared.kind.AwKind.{AwKind}
+use Rattle.ace_codes.specs.declared.kind.AwKind.TheVariants as write
 use Rattle.ace_event.specs.declared.event.Channel.{Channel}
 use Rattle.ace_event.specs.declared.event.Channel.TheVariants.{Read, Write}
 use Rattle.ace_event.specs.declared.event.Event.TheVariants.{B, M}
@@ -12,17 +13,18 @@ use Rattle.ace_model.specs.declared.transactions.Transaction.{Transaction}
 use Rattle.ace_model.specs.Accepted.{IsAccepted}
 use Rattle.ace_model.specs.AddressRules.{k1}
 use Rattle.ace_model.specs.Barriers.{is_barrier_half}
-use Rattle.ace_model.specs.Grants.{granted, has_passed_data, is_granted}
-use Rattle.ace_model.specs.Kinds.{has_write_data, is_evict, is_update}
+use Rattle.ace_model.specs.Grants.{granted, has_grant, has_passed_data, is_granted}
+use Rattle.ace_model.specs.Kinds.{has_write_data, is_evict, is_granted_write, is_update}
 use Rattle.ace_model.specs.OrderRules.{k34}
-use Rattle.ace_model.specs.Progress.{evicts, transactions, updates_memory}
+use Rattle.ace_model.specs.Progress.{evicts, updates_memory}
 use Rattle.ace_model.specs.States.{are_snoops_done}
 use Rattle.ace_model.specs.Trace.{Trace, implies, is_none_or, is_some_and}
-use Rattle.ace_model.specs.Transactions.{is_complete, is_outstanding, is_read, outstanding, same_channel, write_kind}
+use Rattle.ace_model.specs.Transactions.{is_complete, is_read, outstanding, same_channel, write_kind}
 use Rattle.ace_model.specs.WriteRules.{data_of, data_of_write, is_update_due, is_write_due, k24, k25, k26, may_respond, may_write_data, may_write_passed}
 use Rattle.ace_model.specs.Writes.{has_memory_write, is_burst_whole}
 use Rattle.ace_model.proofs.General.Options.{is_some_and-is}
-use Rattle.ace_model.proofs.Grants.Granted.{granted_at, granted_given, updates_ungranted}
+use Rattle.ace_model.proofs.GrantLooks.Had.{granted_had}
+use Rattle.ace_model.proofs.Grants.Granted.{granted_at, granted_given, granted_write, updates_ungranted}
 use Rattle.ace_runs.specs.Bursts.{is_kept, may_begin, may_serve}
 use Rattle.ace_runs.specs.LineSteps.{memory_write, response, update_burst}
 use Rattle.ace_runs.proofs.NeverStuck.Updates.EvictsMove.{evict-no-data, evicts-no-half, evicts-write, may-answer-evict}
@@ -131,6 +133,22 @@ pub none-begins : (h : Header) (past : Trace) (x : Transaction) → updates_memo
 none-begins h past x f e =
     ap (λ b. may_begin h past (if b then memory_write h past x ++ response x else if evicts x then response x else [])) f
     ∙ ap (λ b. may_begin h past (if b then response x else [])) e
+
+-- a granted write is no update and no Evict
+pub granted-begins : (h : Header) (past : Trace) → IsAccepted h past → (p : ℕ) (x : Transaction) → IsWrite h past p x → has_grant past x.port x.chan x.id ≡ true
+    → may_begin h past (update_burst h past x) ≡ false
+granted-begins h past a p x w had =
+    let writes : is_read x.chan ≡ false = ap is_read w.chan in
+    let out : outstanding h past x.port x.chan x.id ≡ Some x =
+    subst (λ q. outstanding h past q x.chan x.id ≡ Some x) (sym w.port) (subst (λ c. outstanding h past p c x.id ≡ Some x) (sym w.chan) w.out) in
+    let takes = (granted_given h past a x.addr x (granted_had h past a x.port x.chan x.id x out had)).kind in
+    let k = granted_write x takes writes in
+    none-begins h past x (false_from_ne_true (updates_memory x) (updates_ungranted x takes writes))
+    (ap (λ o. is_some_and o is_evict) k.1 ∙ no-evict k.0 k.2)
+  where
+    no-evict : (k : AwKind) → is_granted_write k ≡ true → is_evict k ≡ false
+    no-evict write.Evict g = cc
+    no-evict k g = refl
 
 read-begins-none : (h : Header) (past : Trace) (x : Transaction) → same_channel x.chan Write ≡ false → may_begin h past (update_burst h past x) ≡ false
 read-begins-none h past x reads =

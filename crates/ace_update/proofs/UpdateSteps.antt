@@ -1,7 +1,7 @@
 -- The burst of a write that may have it is a step, and the trace with it is one for which an engine may stand.
-use Rattle.std.proofs.Common.{◌≡◌, ℕ, Bool, true, false, not, ◌&&◌, ◌||◌, ◌==◌, nat_le, nat_lt, if◌then◌else◌, List, [], ◌∷◌, ◌++◌, length, map, Some, None, is_some, refl, sym, ap, subst, ◌∙◌, inl, inr, arith}
+use Rattle.std.proofs.Common.{◌≡◌, ℕ, Bool, true, false, not, ◌&&◌, ◌||◌, ◌==◌, nat_le, nat_lt, if◌then◌else◌, List, [], ◌∷◌, ◌++◌, length, map, Some, None, is_some, refl, sym, ap, subst, ◌∙◌, inl, inr}
 use Rattle.std.specs.Option.{option_to_list}
-use Rattle.std.proofs.lemmas.Bool.{and_from, and_parts, cases_Bool, eq-eqb, eqb-true, false_from_ne_true, le-leb, not-true, or_left}
+use Rattle.std.proofs.lemmas.Bool.{and_from, and_parts, cases_Bool, eq-eqb, false_from_ne_true, not-true, or_left}
 use Rattle.ace_codes.specs.declared.kind.AwKind.{AwKind}
 use Rattle.ace_codes.specs.declared.kind.AwKind.TheVariants as write
 use Rattle.ace_event.specs.declared.event.Channel.{Channel}
@@ -15,12 +15,12 @@ use Rattle.ace_model.specs.Barriers.{is_barrier_half}
 use Rattle.ace_model.specs.Kinds.{has_write_data, is_read_barrier, is_update, is_write_barrier}
 use Rattle.ace_model.specs.Plans.{Plan}
 use Rattle.ace_model.specs.Progress.{evicts, updates_memory}
-use Rattle.ace_model.specs.Trace.{Trace, implies, is_some_and, port_of}
+use Rattle.ace_model.specs.Trace.{Trace, implies, is_some_and}
 use Rattle.ace_model.specs.Transactions.{is_complete, is_outstanding, outstanding, read_kind, same_channel, write_kind}
 use Rattle.ace_model.specs.Values.{burst_line}
 use Rattle.ace_model.specs.WriteRules.{data_of, data_of_write}
 use Rattle.ace_model.specs.Writes.{burst_of, has_memory_write, is_burst_whole}
-use Rattle.ace_model.proofs.General.Options.{Some-injective, is_none_or-at, is_some_and-is}
+use Rattle.ace_model.proofs.General.Options.{Some-injective, is_some_and-is}
 use Rattle.ace_model.proofs.Trace.Growth.{some_issued-found}
 use Rattle.ace_model.proofs.Trace.WriteQueue.{done_write}
 use Rattle.ace_runs.specs.Bursts.{are_kept, is_kept, may_begin, may_serve, serves}

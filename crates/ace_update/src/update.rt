@@ -58,12 +58,15 @@ impl Update {
             .copied()
     }
 
-    /// An outstanding write may have its burst of step 3.
+    /// An outstanding write may have its burst of step 3. No granted one is an update or an Evict.
     fn is_due(&self, x: &Progress) -> bool
         ensures { (plan : Plan) (past : Trace) (p : ℕ) (k : ℕ) (y : Transaction) → UpdateStands self.now plan past → slice_get (pending_of plan.header past p Write) k ≡ Some y
             → x.now ≡ progress_of plan.header past y → result ≡ may_begin plan.header past (update_burst plan.header past y) }
     {
         let write = &x.transaction;
+        if x.granted {
+            return false;
+        }
         if updates_memory(write) {
             self.data(write).is_some() && !self.passed.has(write.addr)
         } else {

@@ -1,18 +1,18 @@
-use Rattle.std.proofs.Common.{◌≡◌, ◌&&◌, ◌==◌, not, None, sym, subst, ◌∙◌, arith}
-use Rattle.ace_runs.specs.Requests.{is_free, least_below}
-use Rattle.ace_master.proofs.LeastNumbers.{least-at, least-none}
+use Rattle.std.proofs.Common.{◌<◌, ◌==◌, ◌&&◌, ◌||◌, not, sym, ap, ◌∙◌, arith}
+use Rattle.std.specs.Int.{bit_at}
+use Rattle.std.specs.List.{list_any}
+use Rattle.ace_portck.specs.declared.target.Progress.{Progress}
+use Rattle.ace_runs.specs.Requests.{is_free}
+use Rattle.ace_master.proofs.TakenNumbers.{free-is, least-same, neither, no-bit}
 use Rattle.ace_master.proofs.identifiers.free_on_beside.Goals as goal
-
-pub returns-then-is_free_beside : goal.returns-then-is_free_beside
-returns-then-is_free_beside c = λ h past p s.
-    sym (least-at c.loop-id.id 16 (λ i. not (c.args.taken == i) && is_free h past p c.args.chan i) (c.loop-id.invariant h past p s)
-    (sym (c.is_free_beside.ensures h past p s) ∙ c.if-is_free_beside.true) (omega arith))
-
-pub loop-id-preserved : goal.loop-id-preserved
-loop-id-preserved c = λ h past p s.
-    least-none c.loop-id.id (λ i. not (c.args.taken == i) && is_free h past p c.args.chan i) (c.loop-id.invariant h past p s) (sym (c.is_free_beside.ensures h past p s) ∙ c.if-is_free_beside.false)
 
 pub returns : goal.returns
 returns c = λ h past p s.
-    let end : c.loop-id.id ≡ 16 = omega arith in
-    sym (subst (λ n. least_below n (λ i. not (c.args.taken == i) && is_free h past p c.args.chan i) ≡ None) end (c.loop-id.invariant h past p s))
+    let list = c.outstanding.result.now in
+    let taken = c.args.taken in
+    c.least_beside.ensures
+    ∙ least-same 16 (λ i. not (bit_at c.with_ids.result i == 1)) (λ i. not (taken == i) && is_free h past p c.args.chan i) (λ i low.
+    let few : i < 32 = omega (arith, low) in
+    let some = list_any (λ (x : Progress). x.transaction.id == i) list in
+    ap not (c.with_ids.ensures i few ∙ ap (λ b. b || some) (c.with_id.ensures i few ∙ no-bit i (taken == i))) ∙ neither (taken == i) some
+    ∙ ap (λ b. not (taken == i) && b) (sym (free-is h past p c.args.chan i list (c.outstanding.ensures h past p s))))

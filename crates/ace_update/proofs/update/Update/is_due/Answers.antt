@@ -1,6 +1,7 @@
 use Rattle.std.proofs.Common.{◌≡◌, true, false, not, ◌&&◌, is_some, slice_get, Some, sym, ap, ◌∙◌}
 use Rattle.ace_model.specs.declared.transactions.Transaction.{Transaction}
 use Rattle.ace_event.specs.declared.event.Channel.TheVariants.{Write}
+use Rattle.ace_model.specs.Grants.{has_grant}
 use Rattle.ace_model.specs.Plans.{Plan}
 use Rattle.ace_model.specs.Progress.{evicts, updates_memory}
 use Rattle.ace_model.specs.Trace.{Trace}
@@ -8,12 +9,18 @@ use Rattle.ace_portck.specs.declared.target.Progress.{Progress}
 use Rattle.ace_portck.specs.Pending.{pending_of}
 use Rattle.ace_portck.specs.Targets.{data_of_write, progress_of}
 use Rattle.ace_update.specs.Passed.{has_passed_on}
-use Rattle.ace_update.proofs.DueWrites.{evict-begins, none-begins, update-begins, write-at}
+use Rattle.ace_update.proofs.DueWrites.{evict-begins, granted-begins, none-begins, update-begins, write-at}
 use Rattle.ace_update.proofs.update.Update.is_due.Goals as goal
 
 -- the transaction that an element of the list tells of
 told : (plan : Plan) (past : Trace) (x : Progress) (y : Transaction) → x ≡ progress_of plan.header past y → x.transaction ≡ y
 told plan past x y is = ap (λ (v : Progress). v.transaction) is
+
+pub returns-then-x : goal.returns-then-x
+returns-then-x c = λ plan past p k y s there is.
+    let h = plan.header in
+    let had : has_grant past y.port y.chan y.id ≡ true = ap (λ (v : Progress). v.granted) (sym is) ∙ c.if-x.true in
+    sym (granted-begins h past s.legal.accepted p y (write-at h past p k y there) had)
 
 pub returns-then-is_some : goal.returns-then-is_some
 returns-then-is_some c = λ plan past p k y s there is.
