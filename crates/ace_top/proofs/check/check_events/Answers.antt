@@ -1,7 +1,5 @@
-use Rattle.std.proofs.Common.{◌∙◌, ◌≤◌, Some, None, IfSome, ap, sym, subst, arith}
+use Rattle.std.proofs.Common.{◌∙◌, Some, None, IfSome, ap, sym, subst}
 use Rattle.ace_event.specs.declared.header.Header.{Header}
-use Rattle.ace_grammar.specs.Reader.{count_of}
-use Rattle.ace_grammar.specs.Reading.{most_events}
 use Rattle.ace_top.specs.Progress.{IsStop}
 use Rattle.ace_top.proofs.ErrorLemmas.{stop_refusal, stop_cause}
 use Rattle.ace_top.proofs.Handed.{round_comes}
