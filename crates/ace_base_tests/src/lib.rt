@@ -1,5 +1,5 @@
-//! Tests of the crates at the bottom: the words of the channels and the tables, events, sources and sinks, line caches and policies. They stand in
-//! a crate of their own, so that what they test is proved once.
+//! Tests of the crates at the bottom: the words of the channels and the tables, events, sources and sinks, maps by lines, line caches and policies. They
+//! stand in a crate of their own, so that what they test is proved once.
 #![tactic(auto)]
 
 #[cfg(test)]
@@ -10,6 +10,8 @@ mod codes;
 mod events;
 #[cfg(test)]
 mod outside;
+#[cfg(test)]
+mod places;
 #[cfg(test)]
 mod policies;
 #[cfg(test)]

@@ -6,14 +6,14 @@ ghost use Rattle.std.specs.Int.{bit_at};
 use crate::lines::begun_line;
 use crate::port::Change;
 use ace_event::Event;
-use indexmap::IndexMap;
+use ace_places::LineMap;
 use std::alloc::{AllocError, Global};
 
 /// For each line that a line transaction named, the ports that may hold it: bit p is 1 exactly
 /// where port p may.
 #[derive(Drop)]
 pub struct LineSets {
-    lines: IndexMap<u32, u32>,
+    lines: LineMap<u32>,
 }
 
 /// The bits with that of the port set. No header has a port from 32 on.
@@ -48,7 +48,7 @@ impl LineSets {
         ensures sets { IfOk result (λ s. (l : ℕ) → set_of s l ≡ 0) }
         ensures lines { IfOk result (LinesStand [] lines) }
     {
-        let lines = IndexMap::with_capacity(alloc, lines)?;
+        let lines = LineMap::with_capacity(alloc, lines)?;
         Ok(LineSets { lines })
     }
 
@@ -63,7 +63,7 @@ impl LineSets {
     pub fn of(&self, line: u32) -> u32
         ensures { result ≡ set_of self.now line }
     {
-        match self.lines.get(&line) {
+        match self.lines.get(line) {
             None => 0,
             Some(bits) => *bits,
         }
@@ -106,8 +106,8 @@ impl LineSets {
             → LinesStand past n self.old → length (known_lines (e ∷ past)) ≤ n
             → LinesStand (e ∷ past) n self.new }
     {
-        if !self.lines.contains_key(&line) {
-            let _full = self.lines.insert(line, 0);
+        if !self.lines.contains_key(line) {
+            let _full = self.lines.add(line, 0);
         }
     }
 
@@ -119,7 +119,7 @@ impl LineSets {
         ensures lines { (past : Trace) (n : ℕ) → LinesStand past n self.old
             → LinesStand past n self.new }
     {
-        if let Some(bits) = self.lines.get_mut(&line) {
+        if let Some(bits) = self.lines.get_mut(line) {
             *bits = with_port(*bits, port);
         }
     }
@@ -131,7 +131,7 @@ impl LineSets {
         ensures lines { (past : Trace) (n : ℕ) → LinesStand past n self.old
             → LinesStand past n self.new }
     {
-        if let Some(bits) = self.lines.get_mut(&line) {
+        if let Some(bits) = self.lines.get_mut(line) {
             *bits = without_port(*bits, port);
         }
     }

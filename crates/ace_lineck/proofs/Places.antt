@@ -1,27 +1,12 @@
 -- Where the records of the lines stand in the map.
-use Rattle.std.proofs.Common.{◌≡◌, ◌<◌, ℕ, Bool, length, suc, ◌+◌, nat_eq, true, false, List, [], ◌∷◌, Option, Some, None, is_some, unwrap_or, slice_get, refl, sym, ap, subst, ◌∙◌, arith}
-use Rattle.std.proofs.lemmas.Bool.{eqb-true, ne_eqb}
-use Rattle.ace_lineck.proofs.Terms.{position_or_len, nat_eq_equiv, keys_of, values_of, get, values, with_value_at, IsUnique, LineCheck, LineRecord, HasRecord, place_on, record_on}
+use Rattle.std.proofs.Common.{◌≡◌, ◌<◌, ℕ, length, nat_eq, true, false, Option, Some, None, is_some, option_map, unwrap_or, slice_get, refl, sym, ap, subst, ◌∙◌}
+use Rattle.std.proofs.lemmas.Option.{slice_get-map}
+use Rattle.std.proofs.lemmas.Bool.{ne_eqb}
+use Rattle.ace_lineck.proofs.Terms.{keys, nat_eq_equiv, get, values, with_value_at, IsUnique, LineCheck, LineRecord, HasRecord, place_on, record_on}
 use Rattle.indexmap.proofs.CallerLemmas.{updates-with_value_at}
 use Rattle.indexmap.proofs.MapLemmas.{Found-position, index-first, some_index}
 use Rattle.indexmap.proofs.RemoveLemmas.{own_first}
-
-first-entry : {X : Type 0} (l : ℕ) (es : List (ℕ × X)) (x : X) → slice_get (values_of es) (position_or_len (nat_eq l) (keys_of es)) ≡ Some x
-    → slice_get es (position_or_len (nat_eq l) (keys_of es)) ≡ Some (l, x)
-first-entry l [] x is = cc
-first-entry {X} l ((k, y) ∷ es) x is = by (first-entry l es x) (nat_eq l k) refl
-  where
-    by : (slice_get (values_of es) (position_or_len (nat_eq l) (keys_of es)) ≡ Some x → slice_get es (position_or_len (nat_eq l) (keys_of es)) ≡ Some (l, x)) → (b : Bool) → nat_eq l k ≡ b
-        → slice_get ((k, y) ∷ es) (position_or_len (nat_eq l) (k ∷ keys_of es)) ≡ Some (l, x)
-    by rest true t =
-        let there : Some y ≡ Some x = rw t at is in
-        let same : y ≡ x = cc in
-        let key : l ≡ k = eqb-true l k t in
-        rw t (let a : ℕ × X = (k, y) in let b : ℕ × X = (l, x) in let pair : a ≡ b = rw (key, same) refl in ap Some pair)
-    by rest false f =
-        let n = position_or_len (nat_eq l) (keys_of es) in
-        let next : suc n ≡ 1 + n = omega arith in
-        rw f (subst (λ j. slice_get ((k, y) ∷ es) j ≡ Some (l, x)) next (rest (subst (λ j. slice_get (y ∷ values_of es) j ≡ Some x) (sym next) (rw f at is))))
+use Rattle.ace_places.proofs.Zips.{first-entry}
 
 -- the entry at the place of a line
 pub entry-at : (s : LineCheck) (l i : ℕ) → place_on s (Some l) ≡ Some i → (x : LineRecord) → slice_get (values s.lines) i ≡ Some x → slice_get s.lines.entries i ≡ Some (l, x)
@@ -32,6 +17,17 @@ entry-at s l i p x is =
 -- the place of the entry of a line
 pub placed-at : (s : LineCheck) (l i : ℕ) (x : LineRecord) → IsUnique nat_eq s.lines → slice_get s.lines.entries i ≡ Some (l, x) → place_on s (Some l) ≡ Some i
 placed-at s l i x unique at = index-first (nat_eq l) s.lines.entries i (own_first nat_eq nat_eq_equiv s.lines.entries i l x unique at)
+
+-- the place of a line that stands there
+pub placed-line : (s : LineCheck) (l i : ℕ) → IsUnique nat_eq s.lines → slice_get (keys s.lines) i ≡ Some l → place_on s (Some l) ≡ Some i
+placed-line s l i unique at = by (slice_get s.lines.entries i) refl
+  where
+    by : (o : Option (ℕ × LineRecord)) → slice_get s.lines.entries i ≡ o → place_on s (Some l) ≡ Some i
+    by None is = let bad : None ≡ Some l = sym (slice_get-map (λ (e : ℕ × LineRecord). e.0) s.lines.entries i ∙ ap (option_map (λ (e : ℕ × LineRecord). e.0)) is) ∙ at in cc
+    by (Some e) is =
+        let there : Some e.0 ≡ Some l = sym (slice_get-map (λ (e : ℕ × LineRecord). e.0) s.lines.entries i ∙ ap (option_map (λ (e : ℕ × LineRecord). e.0)) is) ∙ at in
+        let same : e.0 ≡ l = cc in
+        placed-at s l i e.1 unique (is ∙ ap (λ k. Some (k, e.1)) same)
 
 -- the record at the place of a line
 pub get-at : (s : LineCheck) (l i : ℕ) → place_on s (Some l) ≡ Some i → get nat_eq s.lines l ≡ slice_get (values s.lines) i

@@ -8,7 +8,7 @@ const HINTS: usize = 1024;
 /// there.
 #[derive(Clone, Copy)]
 pub struct Hints {
-    places: [u16; HINTS],
+    places: [u32; HINTS],
 }
 
 /// The number of the line.
@@ -27,7 +27,7 @@ impl Hints {
     #[inline(always)]
     pub fn guess(&self, line: u32) -> usize {
         match self.places.get(number_of(line)) {
-            Some(place) => usize::from(*place),
+            Some(place) => *place as usize,
             None => 0,
         }
     }
@@ -39,7 +39,7 @@ impl Hints {
         };
         if let (Some(kept), Ok(place)) = (
             self.places.get_mut(number_of(line)),
-            u16::try_from(place),
+            u32::try_from(place),
         ) {
             *kept = place;
         }

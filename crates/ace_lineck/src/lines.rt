@@ -5,7 +5,7 @@ use crate::record::{LineRecord, empty_record};
 use crate::room::{Room, rooms, take_record};
 use ace_event::{Channel, Header, Line};
 use ace_io::NoMemory;
-use indexmap::IndexMap;
+use ace_places::LineMap;
 use std::alloc::Global;
 
 /// The checker of the rules that look at one line: what is kept of each line of which something has
@@ -14,7 +14,7 @@ use std::alloc::Global;
 pub struct LineCheck {
     pub(crate) header: Header,
     alloc: Global,
-    pub(crate) lines: IndexMap<u32, LineRecord>,
+    pub(crate) lines: LineMap<LineRecord>,
     /// How many lines a transaction has named.
     pub(crate) known: usize,
     /// What is kept of every other line.
@@ -43,7 +43,7 @@ impl LineCheck {
         LineCheck {
             header,
             alloc,
-            lines: IndexMap::new(alloc),
+            lines: LineMap::new(alloc),
             known: 0,
             empty: empty_record(alloc),
             spare: Vec::new(alloc),
@@ -58,7 +58,7 @@ impl LineCheck {
             → Stands s (record { header = header; past = [] })) }
         ensures room { IfOk result (IsRoomy lines []) }
     {
-        let Ok(records) = IndexMap::with_capacity(alloc, lines) else {
+        let Ok(records) = LineMap::with_capacity(alloc, lines) else {
             return Err(NoMemory);
         };
         let spare = rooms(alloc, header.ports, lines)?;
@@ -103,7 +103,7 @@ impl LineCheck {
     fn search(&self, line: u32) -> Option<usize>
         ensures { result ≡ place_on self.now (Some line) }
     {
-        self.lines.get_index_of(&line)
+        self.lines.get_index_of(line)
     }
 
     /// The record of the line stands at the place.
@@ -111,11 +111,8 @@ impl LineCheck {
     fn stands_at(&self, place: usize, line: u32) -> bool
         ensures { result ≡ true → place_on self.now (Some line) ≡ Some place }
     {
-        if place >= self.lines.len() {
-            return false;
-        }
-        match self.lines.get_index(place) {
-            Some((key, _kept)) => *key == line,
+        match self.lines.line_at(place) {
+            Some(it) => it == line,
             None => false,
         }
     }
@@ -129,7 +126,7 @@ impl LineCheck {
             None => &self.empty,
             Some(place) => match self.lines.get_index(place) {
                 None => &self.empty,
-                Some((_line, kept)) => kept,
+                Some(kept) => kept,
             },
         }
     }
@@ -164,8 +161,8 @@ impl LineCheck {
         let Ok(kept) = take_record(&mut self.spare, self.alloc, self.header.ports) else {
             return Err(NoMemory);
         };
-        match self.lines.insert(line, kept) {
-            Ok(_) => {
+        match self.lines.add(line, kept) {
+            Ok(()) => {
                 let made = self.place(Some(line));
                 self.hints.put(line, made);
                 Ok(made)

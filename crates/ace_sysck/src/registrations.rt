@@ -6,14 +6,14 @@ ghost use Rattle.ace_sysck.specs.Registrations.{kept_bits};
 
 use ace_model::Transaction;
 use ace_model::kinds::is_exclusive_store;
-use indexmap::IndexMap;
+use ace_places::LineMap;
 use std::alloc::{AllocError, Global};
 
 /// For each line that was granted to a transaction with lock 1, the ports that are registered for
 /// it: bit p is 1 exactly where port p is (Arm IHI 0022E, C9).
 #[derive(Drop)]
 pub struct Registrations {
-    lines: IndexMap<u32, u32>,
+    lines: LineMap<u32>,
 }
 
 /// The bits with that of the port set. No header has a port from 32 on.
@@ -62,7 +62,7 @@ impl Registrations {
         ensures { (h : Header) → RegistrationsStand (record { header = h; past = [] }) result }
     {
         Registrations {
-            lines: IndexMap::new(alloc),
+            lines: LineMap::new(alloc),
         }
     }
 
@@ -72,14 +72,14 @@ impl Registrations {
             → RegistrationsStand (record { header = h; past = [] }) s) }
         ensures room { IfOk result (λ s. HasRoomForLines lines [] s.lines) }
     {
-        let lines = IndexMap::with_capacity(alloc, lines)?;
+        let lines = LineMap::with_capacity(alloc, lines)?;
         Ok(Registrations { lines })
     }
 
     fn bits_of(&self, line: u32) -> u32
         ensures { result ≡ registered_bits self.now line }
     {
-        match self.lines.get(&line) {
+        match self.lines.get(line) {
             None => 0,
             Some(bits) => *bits,
         }
@@ -106,10 +106,8 @@ impl Registrations {
             → HasRoomForLines n past self.old.lines
             → length (known_lines past) ≤ n → IsOk result }
     {
-        if !self.lines.contains_key(&line) {
-            if self.lines.insert(line, 0).is_err() {
-                return Err(AllocError);
-            }
+        if !self.lines.contains_key(line) {
+            self.lines.add(line, 0)?;
         }
         Ok(())
     }
@@ -126,7 +124,7 @@ impl Registrations {
             → HasRoomForLines n past self.new.lines }
     {
         let kept = kept_bits(x, self.bits_of(x.addr));
-        match self.lines.get_mut(&x.addr) {
+        match self.lines.get_mut(x.addr) {
             None => false,
             Some(line) => {
                 *line = with_port(kept, x.port);

@@ -1,0 +1,4 @@
+pub mod Walks
+pub mod Placed
+pub mod Kept
+pub mod Lends
