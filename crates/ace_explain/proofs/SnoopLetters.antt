@@ -3,6 +3,8 @@ use Rattle.std.proofs.Common.{◌≡◌, ℕ, Bool, true, false, not, ◌&&◌, 
 use Rattle.ace_event.specs.declared.event.Channel.{Channel}
 use Rattle.ace_event.specs.declared.event.Event.{Event}
 use Rattle.ace_event.specs.declared.event.Event.TheVariants.{W, G, Ac}
+use Rattle.ace_event.specs.declared.header.Header.{Header}
+use Rattle.ace_model.specs.Trace.{Trace}
 use Rattle.ace_model.specs.declared.transactions.Transaction.{Transaction}
 use Rattle.ace_model.specs.Transactions.{outstanding, takes_grant}
 use Rattle.ace_model.specs.Grants.{has_grant, granted, is_begun, was_snooped}
@@ -10,10 +12,26 @@ use Rattle.ace_model.specs.Exclusives.{has_failed}
 use Rattle.ace_model.specs.SnoopRules.{has_snoop_code}
 use Rattle.ace_model.specs.Snoops.{snoops_a_line}
 use Rattle.ace_model.specs.States.{owes_wack}
-use Rattle.ace_portck.specs.Targets.{Recording}
+use Rattle.ace_model.proofs.General.Options.{Some-injective}
+use Rattle.ace_portck.specs.Targets.{Recording, progress_of}
+use Rattle.ace_portck.specs.declared.target.Progress.{Progress}
+use Rattle.ace_lineck.specs.Records.{name_of}
 use Rattle.ace_clauses.specs.declared.letters.Letter.TheVariants as letter
 use Rattle.ace_explain.specs.Names.{Names}
 use Rattle.ace_explain.proofs.Broken.{has_clause, last_one, none_broken}
+
+-- what a look tells of a transaction that is outstanding, and of none
+pub made_of : (h : Header) (past : Trace) (o : Option Transaction) (y : Progress) → option_map (progress_of h past) o ≡ Some y
+    → (o ≡ Some y.transaction) × (y ≡ progress_of h past y.transaction)
+made_of h past None y is = cc
+made_of h past (Some x) y is =
+    let same = Some-injective (progress_of h past x) y is in
+    let one : x ≡ y.transaction = ap (λ (v : Progress). v.transaction) same in
+    (ap Some one, sym same ∙ ap (progress_of h past) one)
+
+pub none_named : (o : Option Transaction) → option_map name_of o ≡ None → o ≡ None
+none_named None is = refl
+none_named (Some x) is = cc
 
 module _ (r : Recording) where
   -- K11, of an event that is no W
@@ -42,6 +60,14 @@ module _ (r : Recording) where
         pub crossing_g : has_grant r.past x.port x.chan x.id ≡ false → Names r (G p c i) 12 letter.D
         crossing_g has least =
             rw (out, takes, has) (last_one (is_none (granted r.header r.past x.addr)) letter.D (rw (out, takes, has) at (has_clause r.header r.past (G p c i) 12 least)))
+
+  -- K13, of an event that is no AC, and of a snoop of no line
+  pub k13_of_others : (e : Event) → ((p addr snoop : ℕ) → e ≡ Ac p addr snoop → ⊥) → Names r e 13 letter.A
+  k13_of_others (Ac p addr snoop) ac least = absurd (ac p addr snoop refl)
+  k13_of_others e ac least = none_broken (has_clause r.header r.past e 13 least)
+
+  pub k13_of_dvm : (p addr snoop : ℕ) → snoops_a_line snoop ≡ false → Names r (Ac p addr snoop) 13 letter.A
+  k13_of_dvm p addr snoop line least = none_broken (rw line at (has_clause r.header r.past (Ac p addr snoop) 13 least))
 
   module _ (p addr snoop : ℕ) (line : snoops_a_line snoop ≡ true) where
     -- K13, by what is granted
