@@ -17,14 +17,15 @@ session_of c = c.owned.value
 abbrev pub IsOpen : AceChecker → (Session → Type 0) → Type 0
 IsOpen c P = MatchOption (session_of c) ⊥ P
 
--- The handle is open, and was fed this trace, which is accepted.
-abbrev pub Hears : AceChecker → Header → Trace → Type 0
-Hears c h past = IsOpen c (λ s. session.Hears s h past)
+-- The handle is open for so many lines, and was fed this trace, which is accepted under the names of
+-- its lines.
+abbrev pub Hears : AceChecker → ℕ → Header → Trace → Type 0
+Hears c most h past = IsOpen c (λ s. session.Hears s most h past)
 
--- The handle is open, was fed this trace, which is accepted, and the next event ended it so.
-abbrev pub HasEnded : AceChecker → Header → Trace → Ending → Type 0
-HasEnded c h past ending = IsOpen c (λ s. session.HasEnded s h past ending)
+-- The handle is open so, was fed this trace, which is accepted so, and the next event ended it so.
+abbrev pub HasEnded : AceChecker → ℕ → Header → Trace → Ending → Type 0
+HasEnded c most h past ending = IsOpen c (λ s. session.HasEnded s most h past ending)
 
--- The handle is open, and was fed these records after the trace, of which the first n were fine.
-abbrev pub HasFed : AceChecker → Header → Trace → List AceEvent → ℕ → Type 0
-HasFed c h past records n = IsOpen c (λ s. session.HasFed s h past records n)
+-- The handle is open so, and was fed these records after the trace, of which the first n were fine.
+abbrev pub HasFed : AceChecker → ℕ → Header → Trace → List AceEvent → ℕ → Type 0
+HasFed c most h past records n = IsOpen c (λ s. session.HasFed s most h past records n)

@@ -1,13 +1,30 @@
 // Whether the numbers of an event are in range.
 ghost use Rattle.std.specs.Prelude.{◌<◌, ◌^◌, ◌↔◌, IsTrue};
-ghost use Rattle.ace_event.specs.Range.{InRange, IsAddress, IsPort};
+ghost use Rattle.ace_event.specs.Range.{IsPort};
+ghost use Rattle.ace_c.specs.Names.{with_address};
+ghost use Rattle.ace_c.specs.Range.{FitsAddress, InRange, IsIdentifier};
 
+use ace_codes::{read_ar, read_aw};
 use ace_event::Event;
 use ace_event::laws::every_event_fits;
+use ace_model::kinds::{is_line_read, is_line_write, snoops_a_line};
 
-fn address_fits(addr: u32)
-    ensures { IsAddress addr }
+fn identifier_fits(id: u8)
+    ensures { IsIdentifier id }
 {}
+
+fn line_fits(addr: u64)
+    ensures { addr < 2 ^ 64 }
+{}
+
+/// Whether the address has the bytes of the address of a line, or of another.
+#[inline(always)]
+fn is_address(of_line: bool, addr: u64) -> bool
+    ensures { IsTrue result ↔ FitsAddress of_line addr }
+{
+    line_fits(addr);
+    if of_line { true } else { addr <= 0xffff_ffff }
+}
 
 fn number_fits(k: u16)
     ensures { k < 2 ^ 16 }
@@ -20,57 +37,68 @@ fn is_port(version: u8, port: u8) -> bool
     version != 1 || port < 16
 }
 
-/// Whether the numbers of the event have the digits of their fields in a trace of the version.
+/// Whether the numbers of the event have the digits of their fields in a trace of the version, with
+/// this address.
 #[inline(always)]
-pub(crate) fn is_in_range(version: u8, event: &Event) -> bool
-    ensures { IsTrue result ↔ InRange version event.now }
+pub(crate) fn is_in_range(version: u8, event: &Event, addr: u64) -> bool
+    ensures { IsTrue result ↔ InRange version (with_address event.now addr) }
 {
     every_event_fits(*event);
+    line_fits(addr);
     match event {
         Event::Ar {
             port,
             id,
-            addr,
             snoop,
             dom,
             bar,
             ..
         } => {
-            address_fits(*addr);
-            is_port(version, *port) && *id < 16 && *snoop < 16 && *dom <= 3 && *bar <= 3
+            identifier_fits(*id);
+            is_port(version, *port)
+                && is_address(read_ar(*snoop, *dom, *bar).is_some_and(is_line_read), addr)
+                && *snoop < 16
+                && *dom <= 3
+                && *bar <= 3
         }
         Event::Aw {
             port,
             id,
-            addr,
             snoop,
             dom,
             bar,
+            ..
         } => {
-            address_fits(*addr);
-            is_port(version, *port) && *id < 16 && *snoop <= 7 && *dom <= 3 && *bar <= 3
+            identifier_fits(*id);
+            is_port(version, *port)
+                && is_address(read_aw(*snoop, *dom, *bar).is_some_and(is_line_write), addr)
+                && *snoop <= 7
+                && *dom <= 3
+                && *bar <= 3
         }
-        Event::R { port, id, resp, .. } => is_port(version, *port) && *id < 16 && *resp < 16,
-        Event::B { port, id, resp } => is_port(version, *port) && *id < 16 && *resp <= 3,
-        Event::Ac { port, addr, snoop } => {
-            address_fits(*addr);
-            is_port(version, *port) && *snoop < 16
+        Event::R { port, id, resp, .. } => {
+            identifier_fits(*id);
+            is_port(version, *port) && *resp < 16
+        }
+        Event::B { port, id, resp } => {
+            identifier_fits(*id);
+            is_port(version, *port) && *resp <= 3
+        }
+        Event::Ac { port, snoop, .. } => {
+            is_port(version, *port) && is_address(snoops_a_line(*snoop), addr) && *snoop < 16
         }
         Event::Cr { port, resp, .. } => is_port(version, *port) && *resp <= 31,
-        Event::G { port, id, .. } => is_port(version, *port) && *id < 16,
-        Event::M { port, id, .. } => is_port(version, *port) && *id < 16,
-        Event::S { port, addr, .. } => {
-            address_fits(*addr);
+        Event::G { port, id, .. } => {
+            identifier_fits(*id);
             is_port(version, *port)
         }
-        Event::D { port, addr, .. } => {
-            address_fits(*addr);
+        Event::M { port, id, .. } => {
+            identifier_fits(*id);
             is_port(version, *port)
         }
-        Event::L { port, addr, w, .. } => {
-            address_fits(*addr);
-            is_port(version, *port) && *w <= 3
-        }
+        Event::S { port, .. } => is_port(version, *port),
+        Event::D { port, .. } => is_port(version, *port),
+        Event::L { port, w, .. } => is_port(version, *port) && *w <= 3,
         Event::Op { port, k, .. } => {
             number_fits(*k);
             is_port(version, *port)
@@ -79,9 +107,6 @@ pub(crate) fn is_in_range(version: u8, event: &Event) -> bool
         Event::Wk { port, .. } => is_port(version, *port),
         Event::W { port, .. } => is_port(version, *port),
         Event::Cd { port, .. } => is_port(version, *port),
-        Event::Mem { addr, .. } => {
-            address_fits(*addr);
-            version != 1
-        }
+        Event::Mem { .. } => version != 1,
     }
 }

@@ -1,5 +1,6 @@
 // An event as C writes it.
-ghost use Rattle.std.specs.Prelude.{◌≡◌};
+ghost use Rattle.std.specs.Prelude.{◌≡◌, option_map};
+ghost use Rattle.ace_c.specs.Names.{with_address};
 ghost use Rattle.ace_c.specs.Records.{flag_of, state_of, channel_of, outcome_of, word_at, line_of, event_as};
 
 use ace_codes::LineState;
@@ -23,7 +24,7 @@ pub struct AceEvent {
     pub index: u8,
     /// The number of an OP, the strobe of a W.
     pub number: u16,
-    pub addr: u32,
+    pub addr: u64,
     /// The strobe of a D.
     pub strobe: u64,
     /// The bytes of the line or, in the first sixteen, of the beat, in order of address.
@@ -99,17 +100,18 @@ fn line_of(given: &AceEvent) -> Line
     }
 }
 
-/// The event of this kind with the fields of the record. None where its kind or a code is none.
+/// The event of this kind with the fields of the record, but for its address, in place of which 0
+/// stands. None where its kind or a code is none.
 #[inline(always)]
 pub(crate) fn event_as(kind: u8, given: &AceEvent) -> Option<Event>
-    ensures { result ≡ event_as kind given.now }
+    ensures { option_map (λ e. with_address e given.now.addr) result ≡ event_as kind given.now }
 {
     let port = given.port;
     match kind {
         0 => Some(Event::Ar {
             port,
             id: given.id,
-            addr: given.addr,
+            addr: 0,
             snoop: given.snoop,
             dom: given.domain,
             bar: given.bar,
@@ -129,7 +131,7 @@ pub(crate) fn event_as(kind: u8, given: &AceEvent) -> Option<Event>
         3 => Some(Event::Aw {
             port,
             id: given.id,
-            addr: given.addr,
+            addr: 0,
             snoop: given.snoop,
             dom: given.domain,
             bar: given.bar,
@@ -151,7 +153,7 @@ pub(crate) fn event_as(kind: u8, given: &AceEvent) -> Option<Event>
         }),
         7 => Some(Event::Ac {
             port,
-            addr: given.addr,
+            addr: 0,
             snoop: given.snoop,
         }),
         8 => Some(Event::Cr {
@@ -177,19 +179,19 @@ pub(crate) fn event_as(kind: u8, given: &AceEvent) -> Option<Event>
         }),
         12 => Some(Event::S {
             port,
-            addr: given.addr,
+            addr: 0,
             st: state_of(given.state)?,
         }),
         13 => Some(Event::L {
             port,
-            addr: given.addr,
+            addr: 0,
             w: given.index,
             x: flag_of(given.flag)?,
             word: word_of(given),
         }),
         14 => Some(Event::D {
             port,
-            addr: given.addr,
+            addr: 0,
             strobe: given.strobe,
             x: flag_of(given.flag)?,
             line: line_of(given),
@@ -200,7 +202,7 @@ pub(crate) fn event_as(kind: u8, given: &AceEvent) -> Option<Event>
             res: outcome_of(given.index)?,
         }),
         16 => Some(Event::Mem {
-            addr: given.addr,
+            addr: 0,
             line: line_of(given),
         }),
         _ => None,

@@ -1,17 +1,19 @@
 // A checker with how it has ended.
-ghost use Rattle.std.specs.Prelude.{◌≡◌, ◌≢◌, ◌∷◌, [], ◌+◌, Option, None, Some, IfNone, IfSome, length};
+ghost use Rattle.std.specs.Prelude.{◌≡◌, ◌≢◌, ◌∷◌, [], ◌+◌, ℕ, Option, None, Some, IfNone, IfSome, length};
 ghost use Rattle.ace_event.specs.declared.header.Header.{Header};
 ghost use Rattle.ace_event.specs.Ports.{IsHeader};
-ghost use Rattle.ace_event.specs.Range.{InRange};
 ghost use Rattle.ace_model.specs.declared.breaks.Break.{Break};
 ghost use Rattle.ace_model.specs.Trace.{Trace};
-ghost use Rattle.ace_check.specs.Run.{Stands, IsSound};
+ghost use Rattle.ace_check.specs.Run.{StandsWithin, IsSound};
 ghost use Rattle.ace_c.specs.declared.answer.Ending.{Ending};
 ghost use Rattle.ace_c.specs.Answers.{status_of, answer_of, fine};
+ghost use Rattle.ace_c.specs.Names.{named, with_address};
+ghost use Rattle.ace_c.specs.Range.{InRange};
 ghost use Rattle.ace_c.specs.Records.{event_of};
 ghost use Rattle.ace_c.specs.Sessions.{Hears, HasEnded, HasFed, IsEnding, EndsAt, IsEventThat, ending_as};
 
 use crate::answer::{AceAnswer, Ending, answer_of, fine, status_of};
+use crate::names::{Nameless, Names};
 use crate::range::is_in_range;
 use crate::record::{AceEvent, event_as};
 use ace_check::{CheckErr, Checker, Step};
@@ -38,19 +40,22 @@ fn ending_as(answer: Result<Step, CheckErr>) -> Option<Ending>
 #[derive(Drop)]
 pub struct Session {
     checker: Checker,
+    names: Names,
     version: u8,
     ended: Option<Ending>,
 }
 
 impl Session {
-    /// The session of the empty trace under this header. None where there is no memory.
-    pub(crate) fn new(alloc: Global, header: Header) -> Option<Session>
+    /// The session of the empty trace under this header, whose transactions may name so many lines.
+    /// None where there is no memory.
+    pub(crate) fn new(alloc: Global, header: Header, most: usize) -> Option<Session>
         requires { IsHeader header }
-        ensures { IfSome result (λ s. Hears s header []) }
+        ensures { IfSome result (λ s. Hears s most header []) }
     {
-        match Checker::new(alloc, header) {
+        match Checker::with_lines(alloc, header, most) {
             Ok(checker) => Some(Session {
                 checker,
+                names: Names::new(alloc),
                 version: header.version,
                 ended: None,
             }),
@@ -61,14 +66,14 @@ impl Session {
     /// Looks at the next event, and tells the status.
     #[inline(always)]
     pub(crate) fn feed(&mut self, given: &AceEvent) -> u8
-        ensures fine { (h : Header) (past : Trace) → Hears self.old h past → result ≡ 0
+        ensures fine { (most : ℕ) (h : Header) (past : Trace) → Hears self.old most h past → result ≡ 0
             → IsEventThat h (event_of given.now)
-            (λ e. Hears self.new h (e ∷ past) × IsSound h (e ∷ past)) }
-        ensures ends { (h : Header) (past : Trace) → Hears self.old h past → result ≢ 0
-            → (ending : Ending) × HasEnded self.new h past ending
-            × IsEnding h past (event_of given.now) ending × (result ≡ status_of ending) }
-        ensures ended { (h : Header) (past : Trace) (ending : Ending)
-            → HasEnded self.old h past ending
+            (λ e. Hears self.new most h (e ∷ past) × IsSound h (named (e ∷ past))) }
+        ensures ends { (most : ℕ) (h : Header) (past : Trace) → Hears self.old most h past → result ≢ 0
+            → (ending : Ending) × HasEnded self.new most h past ending
+            × IsEnding most h past (event_of given.now) ending × (result ≡ status_of ending) }
+        ensures ended { (most : ℕ) (h : Header) (past : Trace) (ending : Ending)
+            → HasEnded self.old most h past ending
             → (result ≡ status_of ending) × (self.new ≡ self.old) }
     {
         if let Some(ending) = self.ended {
@@ -95,12 +100,12 @@ impl Session {
     /// does. Each kind has an arm, so that what is done is compiled for that kind alone.
     #[inline(always)]
     fn ending_at(&mut self, given: &AceEvent) -> Option<Ending>
-        ensures fine { (h : Header) (past : Trace) → Hears self.old h past
+        ensures fine { (most : ℕ) (h : Header) (past : Trace) → Hears self.old most h past
             → IfNone result
-            (IsEventThat h (event_of given.now) (λ e. Hears self.new h (e ∷ past))) }
-        ensures ends { (h : Header) (past : Trace) → Hears self.old h past
-            → IfSome result (λ ending. IsEnding h past (event_of given.now) ending
-            × ((b : Option Break) × Stands self.new.checker h past b)) }
+            (IsEventThat h (event_of given.now) (λ e. Hears self.new most h (e ∷ past))) }
+        ensures ends { (most : ℕ) (h : Header) (past : Trace) → Hears self.old most h past
+            → IfSome result (λ ending. IsEnding most h past (event_of given.now) ending
+            × ((b : Option Break) × StandsWithin most self.new.checker h (named past) b)) }
     {
         match given.kind {
             0 => self.ending_as(0, given),
@@ -128,43 +133,48 @@ impl Session {
     #[inline(always)]
     fn ending_as(&mut self, kind: u8, given: &AceEvent) -> Option<Ending>
         requires { given.now.kind ≡ kind }
-        ensures fine { (h : Header) (past : Trace) → Hears self.old h past
+        ensures fine { (most : ℕ) (h : Header) (past : Trace) → Hears self.old most h past
             → IfNone result
-            (IsEventThat h (event_of given.now) (λ e. Hears self.new h (e ∷ past))) }
-        ensures ends { (h : Header) (past : Trace) → Hears self.old h past
-            → IfSome result (λ ending. IsEnding h past (event_of given.now) ending
-            × ((b : Option Break) × Stands self.new.checker h past b)) }
+            (IsEventThat h (event_of given.now) (λ e. Hears self.new most h (e ∷ past))) }
+        ensures ends { (most : ℕ) (h : Header) (past : Trace) → Hears self.old most h past
+            → IfSome result (λ ending. IsEnding most h past (event_of given.now) ending
+            × ((b : Option Break) × StandsWithin most self.new.checker h (named past) b)) }
     {
         match event_as(kind, given) {
-            Some(event) => self.ending_of(&event),
+            Some(event) => self.ending_of(event, given.addr),
             None => Some(Ending::OutOfRange),
         }
     }
 
-    /// The same, where the record is of an event.
+    /// The same, where the record is of this event with this address.
     #[inline(always)]
-    fn ending_of(&mut self, event: &Event) -> Option<Ending>
-        ensures fine { (h : Header) (past : Trace) → Hears self.old h past
-            → IfNone result (InRange h.version event.now × Hears self.new h (event.now ∷ past)) }
-        ensures ends { (h : Header) (past : Trace) → Hears self.old h past
-            → IfSome result (λ ending. EndsAt h past event.now ending
-            × ((b : Option Break) × Stands self.new.checker h past b)) }
+    fn ending_of(&mut self, event: Event, addr: u64) -> Option<Ending>
+        ensures fine { (most : ℕ) (h : Header) (past : Trace) → Hears self.old most h past
+            → IfNone result (InRange h.version (with_address event addr)
+            × Hears self.new most h (with_address event addr ∷ past)) }
+        ensures ends { (most : ℕ) (h : Header) (past : Trace) → Hears self.old most h past
+            → IfSome result (λ ending. EndsAt most h past (with_address event addr) ending
+            × ((b : Option Break) × StandsWithin most self.new.checker h (named past) b)) }
     {
-        if !is_in_range(self.version, event) {
+        if !is_in_range(self.version, &event, addr) {
             return Some(Ending::OutOfRange);
         }
         if self.checker.count() >= MOST_EVENTS {
             return Some(Ending::TooManyEvents);
         }
-        ending_as(self.checker.feed(event))
+        match self.names.named(event, addr) {
+            Ok(named) => ending_as(self.checker.feed(&named)),
+            Err(Nameless::AllTaken) => Some(Ending::TooManyLines),
+            Err(Nameless::NoMemory) => Some(Ending::NoMemory),
+        }
     }
 
     /// Looks at the next events, up to the first that ends the session: how many were fine.
     pub(crate) fn feed_many(&mut self, given: &[AceEvent]) -> usize
-        ensures fed { (h : Header) (past : Trace) → Hears self.old h past
-            → HasFed self.new h past given.now result }
-        ensures ended { (h : Header) (past : Trace) (ending : Ending)
-            → HasEnded self.old h past ending → (result ≡ 0) × (self.new ≡ self.old) }
+        ensures fed { (most : ℕ) (h : Header) (past : Trace) → Hears self.old most h past
+            → HasFed self.new most h past given.now result }
+        ensures ended { (most : ℕ) (h : Header) (past : Trace) (ending : Ending)
+            → HasEnded self.old most h past ending → (result ≡ 0) × (self.new ≡ self.old) }
     {
         if self.ended.is_some() {
             return 0;
@@ -179,10 +189,10 @@ impl Session {
 
     /// The answer about all events so far.
     pub(crate) fn verdict(&self) -> AceAnswer
-        ensures fine { (h : Header) (past : Trace) → Hears self.now h past
+        ensures fine { (most : ℕ) (h : Header) (past : Trace) → Hears self.now most h past
             → result ≡ fine (length past) }
-        ensures ended { (h : Header) (past : Trace) (ending : Ending)
-            → HasEnded self.now h past ending → result ≡ answer_of ending (length past + 1) }
+        ensures ended { (most : ℕ) (h : Header) (past : Trace) (ending : Ending)
+            → HasEnded self.now most h past ending → result ≡ answer_of ending (length past + 1) }
     {
         let count = self.checker.count();
         match self.ended {
