@@ -32,15 +32,19 @@ with_event event (Ok (Some put)) = Ok (Some event)
 with_event event (Ok None) = Ok None
 with_event event (Err error) = Err error
 
--- What stands next in a trace of a version after so many events, by the bytes that no line had before and has after it,
--- and those that the source has left then.
+-- What stands next in a trace of a version that has at most so many events, after a count of them, by the bytes that no line had
+-- before and has after it, and those that the source has left then.
+abbrev pub StandsNextWithin : ℕ → ℕ → Result (Option Event) ReadErr → ℕ → Option (List ℕ) → Option (List ℕ) → Option (List ℕ) → Type 0
+StandsNextWithin most version (Ok (Some event)) count old new left = (count < most) × IsReadable version event × Consumes old new (line_text (event_text version event))
+StandsNextWithin most version (Ok None) count old new left = IsAtEnd old × LeavesNothing old new × LeavesNothing old left
+StandsNextWithin most version (Err (Malformed line reason)) count old new left = (count < most) × (line ≡ count + 3) × IfTold old (λ bytes. HasBadLine version bytes reason)
+StandsNextWithin most version (Err TooManyEvents) count old new left = (count ≡ most) × IfTold old (λ bytes. bytes ≢ [])
+StandsNextWithin most version (Err ReadFault) count old new left = IsPending old left
+StandsNextWithin most version (Err NoMemory) count old new left = ⊥
+
+-- the same in a trace with the most events that it has
 abbrev pub StandsNext : ℕ → Result (Option Event) ReadErr → ℕ → Option (List ℕ) → Option (List ℕ) → Option (List ℕ) → Type 0
-StandsNext version (Ok (Some event)) count old new left = (count < most_events) × IsReadable version event × Consumes old new (line_text (event_text version event))
-StandsNext version (Ok None) count old new left = IsAtEnd old × LeavesNothing old new × LeavesNothing old left
-StandsNext version (Err (Malformed line reason)) count old new left = (count < most_events) × (line ≡ count + 3) × IfTold old (λ bytes. HasBadLine version bytes reason)
-StandsNext version (Err TooManyEvents) count old new left = (count ≡ most_events) × IfTold old (λ bytes. bytes ≢ [])
-StandsNext version (Err ReadFault) count old new left = IsPending old left
-StandsNext version (Err NoMemory) count old new left = ⊥
+StandsNext version answer count old new left = StandsNextWithin most_events version answer count old new left
 
 -- The source's count of faults rose where the answer is that it failed, and else it is the same.
 abbrev pub HasFaultCause : Result (Option Event) ReadErr → ℕ → ℕ → Type 0

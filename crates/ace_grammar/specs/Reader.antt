@@ -14,7 +14,7 @@ use Rattle.ace_grammar.specs.declared.error.ReadErr.TheVariants.{Malformed, TooM
 use Rattle.ace_grammar.specs.declared.reader.Reader.{Reader}
 use Rattle.ace_grammar.specs.declared.stage.Stage.{Stage}
 use Rattle.ace_grammar.specs.declared.stage.Stage.TheVariants.{Reading, Ended, Failed}
-use Rattle.ace_grammar.specs.Reading.{Reads, Whole, Full, Bad, IsReadable, IsReadableHeader, most_events}
+use Rattle.ace_grammar.specs.Reading.{ReadsWithin, Whole, Full, Bad, IsReadable, IsReadableHeader}
 
 -- the source that it takes bytes from
 abbrev pub source_of : {S : Type 0} {g : Ghosts S} → Reader S g → MutBor S
@@ -27,6 +27,10 @@ unread left reader = lines.waiting left reader.lines
 -- the header that it read
 abbrev pub header_of : {S : Type 0} {g : Ghosts S} → Reader S g → Header
 header_of reader = reader.header
+
+-- the most events that it gives
+abbrev pub most_of : {S : Type 0} {g : Ghosts S} → Reader S g → ℕ
+most_of reader = reader.most
 
 -- how many events it gave
 abbrev pub count_of : {S : Type 0} {g : Ghosts S} → Reader S g → ℕ
@@ -64,16 +68,16 @@ count_after count (Err error) = count
 pub record HasRead {S : Type 0} {g : Ghosts S} (left : S → Option (List ℕ)) (bytes : List ℕ) (events : List Event) (reader : Reader S g) : Type 0 where
   pub header_is_readable : IsReadableHeader (header_of reader)
   pub events_are_readable : AllByRecursion (IsReadable (header_of reader).version) events
-  pub few : length events ≤ most_events
+  pub few : length events ≤ most_of reader
   pub counted : length events ≡ count_of reader
   pub text : Consumes (Some bytes) (unread left reader) (trace_text (header_of reader) events)
 
 -- The answer of a reader that had read these events of the bytes is that of their reading: one more event, or how they
--- end. At a fault what was taken and not given is less than a line.
+-- end, where a trace has as many events as the reader gives at most. At a fault what was taken and not given is less than a line.
 abbrev pub IsReading : {S : Type 0} {g : Ghosts S} → (S → Option (List ℕ)) → List ℕ → List Event → Reader S g → Reader S g → Result (Option Event) ReadErr → Type 0
 IsReading left bytes events old new (Ok (Some event)) = HasRead left bytes (events ++ event ∷ []) new
-IsReading left bytes events old new (Ok None) = Reads bytes (header_of old) events Whole
-IsReading left bytes events old new (Err (Malformed line reason)) = Reads bytes (header_of old) events (Bad line reason)
-IsReading left bytes events old new (Err TooManyEvents) = Reads bytes (header_of old) events Full
+IsReading left bytes events old new (Ok None) = ReadsWithin (most_of old) bytes (header_of old) events Whole
+IsReading left bytes events old new (Err (Malformed line reason)) = ReadsWithin (most_of old) bytes (header_of old) events (Bad line reason)
+IsReading left bytes events old new (Err TooManyEvents) = ReadsWithin (most_of old) bytes (header_of old) events Full
 IsReading left bytes events old new (Err ReadFault) = IsPending (unread left old) (left (source_of new).now)
 IsReading left bytes events old new (Err NoMemory) = ⊥

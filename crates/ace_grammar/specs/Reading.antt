@@ -1,5 +1,5 @@
 -- How bytes read as a trace. The text of a trace is written and compared here, and never cut.
-use Rattle.std.specs.Prelude.{◌≡◌, ◌≢◌, ℕ, ◌+◌, ◌<◌, ◌≤◌, ◌⊎◌, List, [], ◌++◌, length, codes, Option, None, Some}
+use Rattle.std.specs.Prelude.{◌≡◌, ◌≢◌, ℕ, ◌+◌, ◌-◌, ◌^◌, ◌<◌, ◌≤◌, ◌⊎◌, List, [], ◌++◌, length, codes, Option, None, Some}
 use Rattle.std.specs.List.{AllByRecursion}
 use Rattle.std.specs.Io.KnownBytes.{Consumes}
 use Rattle.ace_event.specs.declared.header.Header.{Header}
@@ -68,6 +68,10 @@ IfTold (Some bytes) P = P bytes
 abbrev pub most_events : ℕ
 most_events = 1048576
 
+-- the most events that a reader counts, as a line has a number below 2 ^ 64: no limit for what a program can count
+abbrev pub most_counted : ℕ
+most_counted = 2 ^ 64 - 3
+
 -- How bytes end: after a whole trace, after the most events of a trace with bytes left, or before a malformed line
 -- with its number and reason. The header has the lines 1 and 2.
 pub data Ending : Type 0 where
@@ -75,15 +79,23 @@ pub data Ending : Type 0 where
   Full : Ending
   Bad : ℕ → Reason → Ending
 
--- what stands after the events of a trace of a version, by the ending
-abbrev pub Ends : ℕ → Ending → List Event → List ℕ → Type 0
-Ends version Whole events rest = (length events ≤ most_events) × (rest ≡ [])
-Ends version Full events rest = (length events ≡ most_events) × (rest ≢ [])
-Ends version (Bad line reason) events rest = (length events < most_events) × (line ≡ length events + 3) × HasBadLine version rest reason
+-- what stands after the events of a trace of a version, by the ending, where a trace has at most so many
+abbrev pub EndsWithin : ℕ → ℕ → Ending → List Event → List ℕ → Type 0
+EndsWithin most version Whole events rest = (length events ≤ most) × (rest ≡ [])
+EndsWithin most version Full events rest = (length events ≡ most) × (rest ≢ [])
+EndsWithin most version (Bad line reason) events rest = (length events < most) × (line ≡ length events + 3) × HasBadLine version rest reason
 
--- The bytes are the text of this header and these events, oldest first, and then end so. Bytes with a bad header have
--- no such reading.
-pub record Reads (bytes : List ℕ) (header : Header) (events : List Event) (ending : Ending) : Type 0 where
+-- the same of a trace with the most events that it has
+abbrev pub Ends : ℕ → Ending → List Event → List ℕ → Type 0
+Ends version ending events rest = EndsWithin most_events version ending events rest
+
+-- The bytes are the text of this header and these events, oldest first, and then end so, where a trace has at most so many
+-- events. Bytes with a bad header have no such reading.
+pub record ReadsWithin (most : ℕ) (bytes : List ℕ) (header : Header) (events : List Event) (ending : Ending) : Type 0 where
   pub header_is_readable : IsReadableHeader header
   pub events_are_readable : AllByRecursion (IsReadable header.version) events
-  pub text : (rest : List ℕ) × (bytes ≡ trace_text header events ++ rest) × Ends header.version ending events rest
+  pub text : (rest : List ℕ) × (bytes ≡ trace_text header events ++ rest) × EndsWithin most header.version ending events rest
+
+-- the same with the most events of a trace
+abbrev pub Reads : List ℕ → Header → List Event → Ending → Type 0
+Reads bytes header events ending = ReadsWithin most_events bytes header events ending

@@ -8,7 +8,7 @@ pub enum ReadErr {
     /// applies: `F1` or `F7` of the lines 1 and 2, which are those of the header, and `F1` to `F6` of the others.
     #[error("a malformed line")]
     Malformed { line: u64, reason: Reason },
-    /// The input goes on after 1,048,576 events.
+    /// The input goes on behind the most events that the reader gives: 1,048,576, unless it was started within another number.
     #[error("more events than a trace may have")]
     TooManyEvents,
     /// The source of the bytes failed.

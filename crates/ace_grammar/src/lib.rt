@@ -21,7 +21,7 @@ pub use event::{NO_EVENT, parse_event};
 pub use fields::number_of;
 pub use header::{parse_ports, parse_version};
 pub use line_reason::cut_field;
-pub use lines::take_line;
+pub use lines::{MOST_COUNTED, take_line};
 pub use reader::{Reader, StartErr};
 pub use reason::Reason;
 pub use shapes::Shape;

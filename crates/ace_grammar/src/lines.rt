@@ -6,10 +6,10 @@ ghost use Rattle.ace_io.specs.Line.{HasNoLf, IsPending};
 ghost use Rattle.ace_io.specs.Reader.{source_of, waiting};
 ghost use Rattle.ace_event.specs.declared.event.Event.{Event};
 ghost use Rattle.ace_event.specs.Text.{line_text, header_text};
-ghost use Rattle.ace_grammar.specs.Errors.{HasNoHeader, HasFaultCause, StandsNext, TakesFront};
+ghost use Rattle.ace_grammar.specs.Errors.{HasNoHeader, HasFaultCause, StandsNextWithin, TakesFront};
 ghost use Rattle.ace_grammar.specs.Lines.{HasNoLine};
 ghost use Rattle.ace_grammar.specs.Reader.{answer_at, given, lasting};
-ghost use Rattle.ace_grammar.specs.Reading.{IsReadableHeader, IfTold, most_events};
+ghost use Rattle.ace_grammar.specs.Reading.{IsReadableHeader, IfTold, most_counted};
 
 use crate::event::read_into;
 use crate::stage::Stage;
@@ -17,8 +17,11 @@ use crate::{ReadErr, Reason, parse_ports, parse_version};
 use ace_event::{Event, Header};
 use ace_io::{Failed, LineBuf, LineEnd, LineReader, Source};
 
-/// The most events of a trace.
+/// The most events of a trace, where nothing else is said.
 pub const MOST_EVENTS: u64 = 1_048_576;
+
+/// The most events that a reader counts, 2^64 - 3, as a line has a number below 2^64: no limit for what a program can count.
+pub const MOST_COUNTED: u64 = 0xffff_ffff_ffff_fffd;
 
 /// Takes the next line with its line feed, and says whether there is one.
 #[tactic(auto, using(crate::proofs::Readings::Taken::cut_front))]
@@ -91,7 +94,7 @@ pub fn read_header<S: Source>(
 #[inline(never)]
 fn read_end<S: Source>(lines: &mut LineReader<S>, line: &mut LineBuf, stage: &mut Stage)
     ensures same_source { (source_of lines.new).ghost_name ≡ (source_of lines.old).ghost_name }
-    ensures next { (version : ℕ) (event : Event) → StandsNext version (given false event (answer_at stage.new)) most_events (waiting S.left lines.old) (waiting S.left lines.new) (S.left (source_of lines.new).now) }
+    ensures next { (most version : ℕ) (event : Event) → StandsNextWithin most version (given false event (answer_at stage.new)) most (waiting S.left lines.old) (waiting S.left lines.new) (S.left (source_of lines.new).now) }
     ensures last { (event : Event) → answer_at stage.new ≡ lasting (given false event (answer_at stage.new)) }
     ensures cause { (event : Event) → HasFaultCause (given false event (answer_at stage.new)) (S.faults (source_of lines.old).now) (S.faults (source_of lines.new).now) }
 {
@@ -102,27 +105,29 @@ fn read_end<S: Source>(lines: &mut LineReader<S>, line: &mut LineBuf, stage: &mu
     };
 }
 
-/// Reads the next event of a trace of a version, after so many, into its place, and says whether there was one. Where there was none,
-/// the place stays, and the stage tells why: then read no more. `line` is room for a line.
+/// Reads the next event of a trace of a version and of at most so many events, after a count of them, into its place, and says whether
+/// there was one. Where there was none, the place stays, and the stage tells why: then read no more. `line` is room for a line.
 #[tactic(auto, using(crate::proofs::Readings::Taken::cut_end))]
 #[inline(always)]
 pub fn read_event<S: Source>(
     lines: &mut LineReader<S>,
     line: &mut LineBuf,
+    most: u64,
     count: u64,
     version: u8,
     event: &mut Event,
     stage: &mut Stage,
 ) -> bool
-    requires few { count ≤ most_events }
+    requires counted { most ≤ most_counted }
+    requires few { count ≤ most }
     requires reads_on { answer_at stage.old ≡ None }
     ensures same_source { (source_of lines.new).ghost_name ≡ (source_of lines.old).ghost_name }
-    ensures next { StandsNext version (given result event.new (answer_at stage.new)) count (waiting S.left lines.old) (waiting S.left lines.new) (S.left (source_of lines.new).now) }
+    ensures next { StandsNextWithin most version (given result event.new (answer_at stage.new)) count (waiting S.left lines.old) (waiting S.left lines.new) (S.left (source_of lines.new).now) }
     ensures last { answer_at stage.new ≡ lasting (given result event.new (answer_at stage.new)) }
     ensures stays { result ≡ false → event.new ≡ event.old }
     ensures cause { HasFaultCause (given result event.new (answer_at stage.new)) (S.faults (source_of lines.old).now) (S.faults (source_of lines.new).now) }
 {
-    if count == MOST_EVENTS {
+    if count == most {
         read_end(lines, line, stage);
         return false;
     }

@@ -1,10 +1,10 @@
 // A trace is read from a source: its header at once, and then event by event.
-ghost use Rattle.std.specs.Prelude.{◌≡◌, ◌≤◌, ℕ, List, [], Option, None, Some, Result, IfOk, IfErr, IfNone, IfSome, OnErr, false};
+ghost use Rattle.std.specs.Prelude.{◌≡◌, ◌+◌, ◌<◌, ◌≤◌, ◌^◌, ℕ, List, [], Option, None, Some, Result, IfOk, IfErr, IfNone, IfSome, OnErr, false};
 ghost use Rattle.std.specs.Io.KnownBytes.{Consumes};
 ghost use Rattle.ace_event.specs.declared.event.Event.{Event};
 ghost use Rattle.ace_event.specs.Text.{header_text};
 ghost use Rattle.ace_grammar.specs.declared.error.ReadErr.{ReadErr};
-ghost use Rattle.ace_grammar.specs.Errors.{HasNoHeader, HasFaultCause, StandsNext, with_event};
+ghost use Rattle.ace_grammar.specs.Errors.{HasNoHeader, HasFaultCause, StandsNextWithin, with_event};
 ghost use Rattle.ace_grammar.specs.Reading.{IsReadableHeader};
 
 use crate::front::{event_in_front, events_in_front};
@@ -29,18 +29,21 @@ pub struct Reader<'a, S: Source> {
     lines: LineReader<'a, S>,
     line: LineBuf,
     header: Header,
+    most: u64,
     count: u64,
     stage: Stage,
-    ghost few: { count ≤ 1048576 },
+    ghost counted: { most + 2 < 2 ^ 64 },
+    ghost few: { count ≤ most },
 }
 
 impl<'a, S: Source> Reader<'a, S> {
-    ghost use Rattle.std.specs.Prelude.{◌+◌, ◌-◌, ◌<◌, ◌≤◌, true, is_some};
+    ghost use Rattle.std.specs.Prelude.{◌-◌, true, is_some};
     ghost use Rattle.ace_grammar.specs.Front.{HandsAllOver, HandsOver};
-    ghost use Rattle.ace_grammar.specs.Reading.{most_events};
-    ghost use Rattle.ace_grammar.specs.Reader.{source_of, unread, header_of, count_of, last_answer, lasting, given, count_after, HasRead, IsReading};
+    ghost use Rattle.ace_grammar.specs.Reading.{most_events, most_counted};
+    ghost use Rattle.ace_grammar.specs.Reader.{source_of, unread, header_of, most_of, count_of, last_answer, lasting, given, count_after, HasRead, IsReading};
 
-    /// Reads the two header lines.
+    /// Reads the two header lines of a trace. The reader gives at most 1,048,576 events, which is
+    /// the most that a trace has.
     ///
     /// # Errors
     ///
@@ -48,7 +51,6 @@ impl<'a, S: Source> Reader<'a, S> {
     /// reason; `ReadFault` only where the source's count of faults rose in this call, and then what
     /// was taken from it holds no header; `NoMemory` where there is none for a reader, which never
     /// comes while its buffer is a part of it. The error hands the source back.
-    #[tactic(auto, using(crate::proofs::Readings::Progress::read_header_alone))]
     pub fn start(alloc: Global, source: &'a mut S) -> Result<Reader<'a, S>, StartErr<'a, S>>
         ensures same_source { IfOk result (λ r.
             (source_of r).ghost_name ≡ source.entry.ghost_name) }
@@ -56,6 +58,39 @@ impl<'a, S: Source> Reader<'a, S> {
         ensures header { IfOk result (λ r. Consumes (S.left source.entry.now) (unread S.left r)
             (header_text (header_of r))) }
         ensures steady { IfOk result (λ r. S.faults (source_of r).now ≡ S.faults source.entry.now) }
+        ensures most { IfOk result (λ r. most_of r ≡ most_events) }
+        ensures count { IfOk result (λ r. count_of r ≡ 0) }
+        ensures reads { IfOk result (λ r. IfSome (S.left source.entry.now)
+            (λ bytes. HasRead S.left bytes [] r)) }
+        ensures reads_on { IfOk result (λ r. last_answer r ≡ None) }
+        ensures handed_back { IfErr result (λ e. e.source.ghost_name ≡ source.entry.ghost_name) }
+        ensures none { IfErr result (λ e. HasNoHeader e.error (S.left source.entry.now)
+            (S.faults source.entry.now)
+            (S.left e.source.now) (S.faults e.source.now)) }
+    {
+        Reader::start_within(alloc, source, MOST_EVENTS)
+    }
+
+    /// The same, and the reader gives at most so many events. `MOST_COUNTED` is no limit for what a
+    /// program can count.
+    ///
+    /// # Errors
+    ///
+    /// Those of `start`.
+    #[tactic(auto, using(crate::proofs::Readings::Progress::read_header_alone))]
+    pub fn start_within(
+        alloc: Global,
+        source: &'a mut S,
+        most: u64,
+    ) -> Result<Reader<'a, S>, StartErr<'a, S>>
+        requires counted { most ≤ most_counted }
+        ensures same_source { IfOk result (λ r.
+            (source_of r).ghost_name ≡ source.entry.ghost_name) }
+        ensures readable { IfOk result (λ r. IsReadableHeader (header_of r)) }
+        ensures header { IfOk result (λ r. Consumes (S.left source.entry.now) (unread S.left r)
+            (header_text (header_of r))) }
+        ensures steady { IfOk result (λ r. S.faults (source_of r).now ≡ S.faults source.entry.now) }
+        ensures most { IfOk result (λ r. most_of r ≡ most) }
         ensures count { IfOk result (λ r. count_of r ≡ 0) }
         ensures reads { IfOk result (λ r. IfSome (S.left source.entry.now)
             (λ bytes. HasRead S.left bytes [] r)) }
@@ -75,6 +110,7 @@ impl<'a, S: Source> Reader<'a, S> {
                 lines,
                 line,
                 header,
+                most,
                 count: 0,
                 stage: Stage::Reading,
             }),
@@ -99,17 +135,19 @@ impl<'a, S: Source> Reader<'a, S> {
     ///
     /// `Malformed` exactly where a line stands next that is malformed, with its number and the
     /// least reason that applies: the line of event n, from 1, is line n + 2. `TooManyEvents`
-    /// exactly where 1,048,576 events were given and a byte stands next. `ReadFault` only where the
-    /// source's count of faults rose in the first call that answers so, and what was taken by then
-    /// and not given is less than a line.
+    /// exactly where as many events were given as the reader gives at most, and a byte stands next:
+    /// 1,048,576, unless it was started within another number. `ReadFault` only where the source's
+    /// count of faults rose in the first call that answers so, and what was taken by then and not
+    /// given is less than a line.
     #[tactic(auto, using(crate::proofs::Readings::Progress::reading_next))]
     pub fn next(&mut self) -> Result<Option<Event>, ReadErr>
         ensures same_source { (source_of self.new).ghost_name ≡ (source_of self.old).ghost_name }
         ensures same_header { header_of self.new ≡ header_of self.old }
+        ensures same_most { most_of self.new ≡ most_of self.old }
         ensures next { last_answer self.old ≡ None
-            → StandsNext (header_of self.old).version result (count_of self.old)
-            (unread S.left self.old)
-            (unread S.left self.new) (S.left (source_of self.new).now) }
+            → StandsNextWithin (most_of self.old) (header_of self.old).version result
+            (count_of self.old) (unread S.left self.old) (unread S.left self.new)
+            (S.left (source_of self.new).now) }
         ensures reads { last_answer self.old ≡ None → (bytes : List ℕ) (events : List Event)
             → HasRead S.left bytes events self.old
             → IsReading S.left bytes events self.old self.new result }
@@ -139,9 +177,10 @@ impl<'a, S: Source> Reader<'a, S> {
     pub fn next_into(&mut self, event: &mut Event) -> Result<Option<()>, ReadErr>
         ensures same_source { (source_of self.new).ghost_name ≡ (source_of self.old).ghost_name }
         ensures same_header { header_of self.new ≡ header_of self.old }
+        ensures same_most { most_of self.new ≡ most_of self.old }
         ensures next { last_answer self.old ≡ None
-            → StandsNext (header_of self.old).version (with_event event.new result)
-            (count_of self.old)
+            → StandsNextWithin (most_of self.old) (header_of self.old).version
+            (with_event event.new result) (count_of self.old)
             (unread S.left self.old) (unread S.left self.new) (S.left (source_of self.new).now) }
         ensures reads { last_answer self.old ≡ None → (bytes : List ℕ) (events : List Event)
             → HasRead S.left bytes events self.old
@@ -176,9 +215,10 @@ impl<'a, S: Source> Reader<'a, S> {
         ensures same_source { (source_of self.new).ghost_name ≡ (source_of self.old).ghost_name }
         ensures source { (source_of self.new).now ≡ (source_of self.old).now }
         ensures same_header { header_of self.new ≡ header_of self.old }
+        ensures same_most { most_of self.new ≡ most_of self.old }
         ensures reads_on { result ≡ true → (last_answer self.old ≡ None)
             × (last_answer self.new ≡ None) }
-        ensures room { result ≡ true → count_of self.old < most_events }
+        ensures room { result ≡ true → count_of self.old < most_of self.old }
         ensures count { result ≡ true → count_of self.new ≡ count_of self.old + 1 }
         ensures taken { result ≡ true → HandsOver (header_of self.old).version
             (λ event. T.took taker.old event taker.new)
@@ -186,7 +226,7 @@ impl<'a, S: Source> Reader<'a, S> {
         ensures stays { result ≡ false → (self.new ≡ self.old) × (taker.new ≡ taker.old) }
     {
         if self.header.version != 1
-            || self.count == MOST_EVENTS
+            || self.count == self.most
             || !matches!(self.stage, Stage::Reading)
         {
             return false;
@@ -207,9 +247,10 @@ impl<'a, S: Source> Reader<'a, S> {
         ensures same_source { (source_of self.new).ghost_name ≡ (source_of self.old).ghost_name }
         ensures source { (source_of self.new).now ≡ (source_of self.old).now }
         ensures same_header { header_of self.new ≡ header_of self.old }
+        ensures same_most { most_of self.new ≡ most_of self.old }
         ensures same_answer { last_answer self.new ≡ last_answer self.old }
         ensures further { count_of self.old ≤ count_of self.new }
-        ensures few { count_of self.old ≤ most_events → count_of self.new ≤ most_events }
+        ensures few { count_of self.new ≤ most_of self.new }
         ensures taken { HandsAllOver (header_of self.old).version T.took
             (count_of self.new - count_of self.old) taker.old taker.new
             (unread S.left self.old) (unread S.left self.new) }
@@ -217,12 +258,12 @@ impl<'a, S: Source> Reader<'a, S> {
             × (taker.new ≡ taker.old) }
     {
         if self.header.version != 1
-            || self.count >= MOST_EVENTS
+            || self.count >= self.most
             || !matches!(self.stage, Stage::Reading)
         {
             return;
         }
-        let handed = events_in_front(self.lines.front(), MOST_EVENTS - self.count, taker);
+        let handed = events_in_front(self.lines.front(), self.most - self.count, taker);
         self.lines.pass(handed.bytes);
         self.count += handed.events;
     }
@@ -234,11 +275,11 @@ impl<'a, S: Source> Reader<'a, S> {
     pub fn gives(&mut self, event: &mut Event) -> bool
         ensures same_source { (source_of self.new).ghost_name ≡ (source_of self.old).ghost_name }
         ensures same_header { header_of self.new ≡ header_of self.old }
+        ensures same_most { most_of self.new ≡ most_of self.old }
         ensures next { last_answer self.old ≡ None
-            → StandsNext (header_of self.old).version (given result event.new
-            (last_answer self.new))
-            (count_of self.old) (unread S.left self.old) (unread S.left self.new) (S.left
-            (source_of self.new).now) }
+            → StandsNextWithin (most_of self.old) (header_of self.old).version
+            (given result event.new (last_answer self.new)) (count_of self.old)
+            (unread S.left self.old) (unread S.left self.new) (S.left (source_of self.new).now) }
         ensures reads { last_answer self.old ≡ None → (bytes : List ℕ) (events : List Event)
             → HasRead S.left bytes events self.old
             → IsReading S.left bytes events self.old self.new (given result event.new
@@ -266,6 +307,7 @@ impl<'a, S: Source> Reader<'a, S> {
         if read_event(
             &mut self.lines,
             &mut self.line,
+            self.most,
             self.count,
             version,
             event,

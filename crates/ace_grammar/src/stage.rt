@@ -1,8 +1,8 @@
 // How far a reader has come. What ends a reading is set in functions of their own, since few events come to it.
-ghost use Rattle.std.specs.Prelude.{◌≡◌, ◌+◌, ◌≤◌};
+ghost use Rattle.std.specs.Prelude.{◌≡◌, ◌+◌, ◌<◌};
 ghost use Rattle.ace_grammar.specs.declared.error.ReadErr.TheVariants.{Malformed, ReadFault};
 ghost use Rattle.ace_grammar.specs.declared.stage.Stage.TheVariants.{Ended, Failed};
-ghost use Rattle.ace_grammar.specs.Reading.{most_events};
+ghost use Rattle.ace_grammar.specs.Reading.{most_counted};
 
 use crate::{ReadErr, Reason};
 
@@ -34,7 +34,7 @@ impl Stage {
     #[cold]
     #[inline(never)]
     pub fn meet_malformed(&mut self, count: u64, reason: Reason)
-        requires { count ≤ most_events }
+        requires { count < most_counted }
         ensures { self.new ≡ Failed (Malformed (count + 3) reason) }
     {
         *self = Stage::Failed(ReadErr::Malformed {

@@ -16,7 +16,7 @@ use Rattle.ace_grammar.specs.declared.reason.Reason.{Reason}
 use Rattle.ace_grammar.specs.declared.reason.Reason.TheVariants.{F1, F7}
 use Rattle.ace_grammar.specs.Letters.{ArePortLetters}
 use Rattle.ace_grammar.specs.Lines.{BeginsWith, IsFirstLine, HasNoLine}
-use Rattle.ace_grammar.specs.Reading.{IsReadable, IsReadableHeader, HasBadLine, HasBadHeader, IsVersion, IsVersionLine, IsPortsLine, ports_text, most_events, Ending, Whole, Full, Bad, Reads}
+use Rattle.ace_grammar.specs.Reading.{IsReadable, IsReadableHeader, HasBadLine, HasBadHeader, IsVersion, IsVersionLine, IsPortsLine, ports_text, most_events, Ending, Whole, Full, Bad, ReadsWithin}
 use Rattle.ace_grammar.proofs.General.Visible.{IsClean}
 use Rattle.ace_grammar.proofs.FirstLines.Letters.{header_of, made_letters, no_letters}
 use Rattle.ace_grammar.proofs.FirstLines.Cut.{not_empty, clean_line}
@@ -102,24 +102,24 @@ events_of version (suc room) (x ∷ xs) =
           ]
     ]
 
-abbrev ReadsBehind : List ℕ → Type 0
-ReadsBehind bytes = (header : Header) × (events : List Event) × (end : Ending) × Reads bytes header events end
+abbrev pub ReadsBehind : ℕ → List ℕ → Type 0
+ReadsBehind most bytes = (header : Header) × (events : List Event) × (end : Ending) × ReadsWithin most bytes header events end
 
-behind : (room : ℕ) → room ≡ most_events → (bytes rest : List ℕ) (header : Header) → IsReadableHeader header → bytes ≡ header_text header ++ rest
-    → ReadsEvents header.version room rest → ReadsBehind bytes
-behind room is bytes rest header readable e r =
+behind : (most : ℕ) (bytes rest : List ℕ) (header : Header) → IsReadableHeader header → bytes ≡ header_text header ++ rest
+    → ReadsEvents header.version most rest → ReadsBehind most bytes
+behind most bytes rest header readable e r =
     let text : bytes ≡ trace_text header r.0 ++ r.1 =
     e ∙ ap (λ (l : List ℕ). header_text header ++ l) r.3 ∙ sym (append_assoc (header_text header) (events_text header.version r.0) r.1) in
     elim r.4 [
-      | inl h ↦ (header, r.0, Whole, record { header_is_readable = readable; events_are_readable = r.2; text = (r.1, text, (omega (arith, h.0, is), h.1)) })
+      | inl h ↦ (header, r.0, Whole, record { header_is_readable = readable; events_are_readable = r.2; text = (r.1, text, h) })
       | inr q ↦
           elim q [
-            | inl h ↦ (header, r.0, Full, record { header_is_readable = readable; events_are_readable = r.2; text = (r.1, text, (h.0 ∙ is, h.1)) })
+            | inl h ↦ (header, r.0, Full, record { header_is_readable = readable; events_are_readable = r.2; text = (r.1, text, h) })
             | inr h ↦ (
               header,
               r.0,
               Bad (length r.0 + 3) h.1.0,
-              record { header_is_readable = readable; events_are_readable = r.2; text = (r.1, text, (omega (arith, h.0, is), refl, h.1.1)) },
+              record { header_is_readable = readable; events_are_readable = r.2; text = (r.1, text, (h.0, refl, h.1.1)) },
             )
           ]
     ]
@@ -221,9 +221,13 @@ header_or_not bytes =
           ]
     ]
 
-pub some_reading : (bytes : List ℕ) → HasSomeBadHeader bytes ⊎ ReadsBehind bytes
-some_reading bytes =
+-- where a trace has at most so many events
+pub some_reading_within : (most : ℕ) (bytes : List ℕ) → HasSomeBadHeader bytes ⊎ ReadsBehind most bytes
+some_reading_within most bytes =
     elim (header_or_not bytes) [
       | inl bad ↦ inl bad
-      | inr h ↦ inr (behind most_events refl bytes h.1 h.0 h.2 h.3 (events_of h.0.version most_events h.1))
+      | inr h ↦ inr (behind most bytes h.1 h.0 h.2 h.3 (events_of h.0.version most h.1))
     ]
+
+pub some_reading : (bytes : List ℕ) → HasSomeBadHeader bytes ⊎ ReadsBehind most_events bytes
+some_reading = some_reading_within most_events

@@ -7,7 +7,7 @@ use Rattle.ace_event.specs.declared.header.Header.{Header}
 use Rattle.ace_event.specs.Text.{event_text, events_text, header_text, line_text, trace_text}
 use Rattle.ace_grammar.specs.declared.reason.Reason.{Reason}
 use Rattle.ace_grammar.specs.Lines.{BeginsWith}
-use Rattle.ace_grammar.specs.Reading.{IsReadable, IsReadableHeader, HasBadHeader, most_events, Ending, Whole, Full, Bad, Ends, Reads}
+use Rattle.ace_grammar.specs.Reading.{IsReadable, IsReadableHeader, HasBadHeader, Ending, Whole, Full, Bad, EndsWithin, ReadsWithin}
 use Rattle.ace_grammar.proofs.General.Visible.{all-append}
 use Rattle.ace_grammar.proofs.Readings.EveryReading.{Stops, events_of}
 use Rattle.ace_grammar.proofs.Readings.OneReading.{one_reading, no_bad_header}
@@ -19,20 +19,20 @@ trace_text-append h events more =
     ∙ sym (append_assoc (header_text h) (events_text h.version events) (events_text h.version more))
 
 -- where there is room for so many events behind these, all of them end as those behind do
-ends_behind : (version room : ℕ) (events more : List Event) (rest : List ℕ) → length events + room ≡ most_events → Stops version room (length more) rest
-    → (end : Ending) × Ends version end (events ++ more) rest
-ends_behind version room events more rest is (inl h) = (Whole, ((rw length-append (omega (arith, h.0, is))), h.1))
-ends_behind version room events more rest is (inr (inl h)) = (Full, ((rw length-append (omega (arith, h.0, is))), h.1))
-ends_behind version room events more rest is (inr (inr h)) =
+ends_behind : (most version room : ℕ) (events more : List Event) (rest : List ℕ) → length events + room ≡ most → Stops version room (length more) rest
+    → (end : Ending) × EndsWithin most version end (events ++ more) rest
+ends_behind most version room events more rest is (inl h) = (Whole, ((rw length-append (omega (arith, h.0, is))), h.1))
+ends_behind most version room events more rest is (inr (inl h)) = (Full, ((rw length-append (omega (arith, h.0, is))), h.1))
+ends_behind most version room events more rest is (inr (inr h)) =
     (Bad (length (events ++ more) + 3) h.1.0, ((rw length-append (omega (arith, h.0, is))), refl, h.1.1))
 
 -- the bytes read as these events and more
-reads_on : (room : ℕ) (bytes : List ℕ) (header : Header) (events : List Event) → length events + room ≡ most_events
+reads_on : (most room : ℕ) (bytes : List ℕ) (header : Header) (events : List Event) → length events + room ≡ most
     → IsReadableHeader header → AllByRecursion (IsReadable header.version) events → BeginsWith bytes (trace_text header events)
-    → (more : List Event) × (end : Ending) × Reads bytes header (events ++ more) end
-reads_on room bytes header events is readable all front =
+    → (more : List Event) × (end : Ending) × ReadsWithin most bytes header (events ++ more) end
+reads_on most room bytes header events is readable all front =
     let r = events_of header.version room front.0 in
-    let end = ends_behind header.version room events r.0 r.1 is r.4 in (
+    let end = ends_behind most header.version room events r.0 r.1 is r.4 in (
       r.0,
       end.0,
       record {
@@ -48,22 +48,22 @@ reads_on room bytes header events is readable all front =
       },
     )
 
-pub reads_behind : (bytes : List ℕ) (header : Header) (events : List Event) → IsReadableHeader header → AllByRecursion (IsReadable header.version) events
-    → length events ≤ most_events → BeginsWith bytes (trace_text header events) → (more : List Event) × (end : Ending) × Reads bytes header (events ++ more) end
-reads_behind bytes header events readable all few front = reads_on (most_events - length events) bytes header events (omega (arith, few)) readable all front
+pub reads_behind : (most : ℕ) (bytes : List ℕ) (header : Header) (events : List Event) → IsReadableHeader header → AllByRecursion (IsReadable header.version) events
+    → length events ≤ most → BeginsWith bytes (trace_text header events) → (more : List Event) × (end : Ending) × ReadsWithin most bytes header (events ++ more) end
+reads_behind most bytes header events readable all few front = reads_on most (most - length events) bytes header events (omega (arith, few)) readable all front
 
-pub front_is_read : (bytes : List ℕ) (header other : Header) (events read : List Event) (end : Ending)
-    → IsReadableHeader header → AllByRecursion (IsReadable header.version) events → length events ≤ most_events → BeginsWith bytes (trace_text header events)
-    → Reads bytes other read end → (other ≡ header) × ((more : List Event) × (read ≡ events ++ more))
-front_is_read bytes header other events read end readable all few front r =
-    let whole = reads_behind bytes header events readable all few front in
+pub front_is_read : {most : ℕ} (bytes : List ℕ) (header other : Header) (events read : List Event) (end : Ending)
+    → IsReadableHeader header → AllByRecursion (IsReadable header.version) events → length events ≤ most → BeginsWith bytes (trace_text header events)
+    → ReadsWithin most bytes other read end → (other ≡ header) × ((more : List Event) × (read ≡ events ++ more))
+front_is_read {most} bytes header other events read end readable all few front r =
+    let whole = reads_behind most bytes header events readable all few front in
     let one = one_reading bytes other header read (events ++ whole.0) end whole.1 r whole.2 in
     (one.0, (whole.0, one.1))
 
 -- such bytes have no malformed header
-pub front_is_good : (bytes : List ℕ) (header : Header) (events : List Event) (number : ℕ) (reason : Reason)
-    → IsReadableHeader header → AllByRecursion (IsReadable header.version) events → length events ≤ most_events → BeginsWith bytes (trace_text header events)
+pub front_is_good : {most : ℕ} (bytes : List ℕ) (header : Header) (events : List Event) (number : ℕ) (reason : Reason)
+    → IsReadableHeader header → AllByRecursion (IsReadable header.version) events → length events ≤ most → BeginsWith bytes (trace_text header events)
     → HasBadHeader bytes number reason → ⊥
-front_is_good bytes header events number reason readable all few front bad =
-    let whole = reads_behind bytes header events readable all few front in
+front_is_good {most} bytes header events number reason readable all few front bad =
+    let whole = reads_behind most bytes header events readable all few front in
     no_bad_header bytes header (events ++ whole.0) whole.1 number reason whole.2 bad

@@ -7,7 +7,7 @@ use Rattle.ace_event.specs.declared.event.Event.{Event}
 use Rattle.ace_event.specs.declared.header.Header.{Header}
 use Rattle.ace_event.specs.Ports.{port_letters}
 use Rattle.ace_event.specs.Text.{event_text, events_text, line_text, version_text, header_text, trace_text}
-use Rattle.ace_grammar.specs.Reading.{IsReadable, IsReadableHeader, HasBadLine, HasBadHeaderLine, HasBadHeader, IsVersion, IsVersionLine, IsPortsLine, ports_text, most_events, Ending, Whole, Full, Bad, Ends, Reads}
+use Rattle.ace_grammar.specs.Reading.{IsReadable, IsReadableHeader, HasBadLine, HasBadHeaderLine, HasBadHeader, IsVersion, IsVersionLine, IsPortsLine, ports_text, Ending, Whole, Full, Bad, EndsWithin, ReadsWithin}
 use Rattle.ace_io.proofs.Cutting.{first_lf}
 use Rattle.ace_grammar.specs.declared.reason.Reason.{Reason}
 use Rattle.ace_grammar.specs.Lines.{IsFirstLine}
@@ -19,21 +19,21 @@ use Rattle.ace_grammar.proofs.FirstLines.Letters.{same_header}
 use Rattle.ace_grammar.proofs.Texts.LineTexts.{event_again, event_short}
 use Rattle.ace_grammar.proofs.Reasons.LineReasons.{same_reason, event_has_none, event_no_lf}
 
--- what stands after so many events, by the ending
-abbrev EndsAt : ℕ → Ending → ℕ → List ℕ → Type 0
-EndsAt version Whole count rest = (count ≤ most_events) × (rest ≡ [])
-EndsAt version Full count rest = (count ≡ most_events) × (rest ≢ [])
-EndsAt version (Bad line reason) count rest = (count < most_events) × (line ≡ count + 3) × HasBadLine version rest reason
+-- what stands after so many events, by the ending, where a trace has at most so many
+abbrev EndsAt : ℕ → ℕ → Ending → ℕ → List ℕ → Type 0
+EndsAt most version Whole count rest = (count ≤ most) × (rest ≡ [])
+EndsAt most version Full count rest = (count ≡ most) × (rest ≢ [])
+EndsAt most version (Bad line reason) count rest = (count < most) × (line ≡ count + 3) × HasBadLine version rest reason
 
-ends_at : (version : ℕ) (ending : Ending) (events : List Event) (rest : List ℕ) → Ends version ending events rest → EndsAt version ending (length events) rest
-ends_at version Whole events rest h = h
-ends_at version Full events rest h = h
-ends_at version (Bad line reason) events rest h = h
+ends_at : (most version : ℕ) (ending : Ending) (events : List Event) (rest : List ℕ) → EndsWithin most version ending events rest → EndsAt most version ending (length events) rest
+ends_at most version Whole events rest h = h
+ends_at most version Full events rest h = h
+ends_at most version (Bad line reason) events rest h = h
 
-at_most : (version : ℕ) (ending : Ending) (count : ℕ) (rest : List ℕ) → EndsAt version ending count rest → count ≤ most_events
-at_most version Whole count rest h = h.0
-at_most version Full count rest h = omega (arith, h.0)
-at_most version (Bad line reason) count rest h = omega (arith, h.0)
+at_most : (most version : ℕ) (ending : Ending) (count : ℕ) (rest : List ℕ) → EndsAt most version ending count rest → count ≤ most
+at_most most version Whole count rest h = h.0
+at_most most version Full count rest h = omega (arith, h.0)
+at_most most version (Bad line reason) count rest h = omega (arith, h.0)
 
 nothing_first : (line bytes : List ℕ) → IsFirstLine line bytes → bytes ≢ []
 nothing_first line bytes first e = not_empty line first.2.0 (sym first.2.1 ∙ e)
@@ -52,16 +52,16 @@ same_bad_line version rest one other (inl h) (inr k) = absurd (h.2 k.0 k.1)
 same_bad_line version rest one other (inr h) (inl k) = absurd (k.2 h.0 h.1)
 same_bad_line version rest one other (inr h) (inr k) = same_reason version k.0 one other (subst (λ (l : List ℕ). HasReason version l one) (same_lines rest h.0 k.0 h.1 k.1) h.2) k.2
 
-same_ending : (version : ℕ) (one other : Ending) (count : ℕ) (rest : List ℕ) → EndsAt version one count rest → EndsAt version other count rest → one ≡ other
-same_ending version Whole Whole count rest h k = refl
-same_ending version Whole Full count rest h k = absurd (k.1 h.1)
-same_ending version Whole (Bad line reason) count rest h k = absurd (bad_isn't_empty version rest reason k.2 h.1)
-same_ending version Full Whole count rest h k = absurd (h.1 k.1)
-same_ending version Full Full count rest h k = refl
-same_ending version Full (Bad line reason) count rest h k = absurd (omega (arith, h.0, k.0))
-same_ending version (Bad line reason) Whole count rest h k = absurd (bad_isn't_empty version rest reason h.2 k.1)
-same_ending version (Bad line reason) Full count rest h k = absurd (omega (arith, h.0, k.0))
-same_ending version (Bad line reason) (Bad line' reason') count rest h k =
+same_ending : (most version : ℕ) (one other : Ending) (count : ℕ) (rest : List ℕ) → EndsAt most version one count rest → EndsAt most version other count rest → one ≡ other
+same_ending most version Whole Whole count rest h k = refl
+same_ending most version Whole Full count rest h k = absurd (k.1 h.1)
+same_ending most version Whole (Bad line reason) count rest h k = absurd (bad_isn't_empty version rest reason k.2 h.1)
+same_ending most version Full Whole count rest h k = absurd (h.1 k.1)
+same_ending most version Full Full count rest h k = refl
+same_ending most version Full (Bad line reason) count rest h k = absurd (omega (arith, h.0, k.0))
+same_ending most version (Bad line reason) Whole count rest h k = absurd (bad_isn't_empty version rest reason h.2 k.1)
+same_ending most version (Bad line reason) Full count rest h k = absurd (omega (arith, h.0, k.0))
+same_ending most version (Bad line reason) (Bad line' reason') count rest h k =
     ap (λ l. Bad l reason) (h.1 ∙ sym k.1) ∙ ap (λ r. Bad line' r) (same_bad_line version rest reason reason' h.2 k.2)
 
 -- the line of an event in range is a first line
@@ -75,11 +75,11 @@ event_isn't_bad version event rest more reason is e (inr h) =
     event_has_none version h.0 reason event h.2 is (same_lines rest (event_text version event) h.0 (event_line version event rest more is e) h.1)
 
 -- where bytes end no event goes on, within the most of a trace
-no_more : (version : ℕ) (ending : Ending) (count : ℕ) (rest more : List ℕ) (event : Event) → EndsAt version ending count rest → count < most_events → IsReadable version event
+no_more : (most version : ℕ) (ending : Ending) (count : ℕ) (rest more : List ℕ) (event : Event) → EndsAt most version ending count rest → count < most → IsReadable version event
     → rest ≡ line_text (event_text version event) ++ more → ⊥
-no_more version Whole count rest more event h lt is e = not_empty (event_text version event) more (sym e ∙ h.1)
-no_more version Full count rest more event h lt is e = omega (arith, h.0)
-no_more version (Bad line reason) count rest more event h lt is e = event_isn't_bad version event rest more reason is e h.2
+no_more most version Whole count rest more event h lt is e = not_empty (event_text version event) more (sym e ∙ h.1)
+no_more most version Full count rest more event h lt is e = omega (arith, h.0)
+no_more most version (Bad line reason) count rest more event h lt is e = event_isn't_bad version event rest more reason is e h.2
 
 same_event : (version : ℕ) (one other : Event) → IsReadable version one → IsReadable version other → event_text version one ≡ event_text version other → one ≡ other
 same_event version one other h k same = some_is one other (sym (event_again version one h) ∙ ap (event_at version) same ∙ event_again version other k)
@@ -88,23 +88,23 @@ regroup : (version : ℕ) (event : Event) (events : List Event) (rest : List ℕ
     → events_text version (event ∷ events) ++ rest ≡ line_text (event_text version event) ++ (events_text version events ++ rest)
 regroup version event events rest = append_assoc (line_text (event_text version event)) (events_text version events) rest
 
-same_events : (version before : ℕ) (one other : List Event) (end end' : Ending) (rest rest' : List ℕ) → AllByRecursion (IsReadable version) one → AllByRecursion (IsReadable version) other
-    → events_text version one ++ rest ≡ events_text version other ++ rest' → EndsAt version end (before + length one) rest → EndsAt version end' (before + length other) rest'
+same_events : (most version before : ℕ) (one other : List Event) (end end' : Ending) (rest rest' : List ℕ) → AllByRecursion (IsReadable version) one → AllByRecursion (IsReadable version) other
+    → events_text version one ++ rest ≡ events_text version other ++ rest' → EndsAt most version end (before + length one) rest → EndsAt most version end' (before + length other) rest'
     → (one ≡ other) × (rest ≡ rest')
-same_events version before [] [] end end' rest rest' h k e p q = (refl, e)
-same_events version before [] (event ∷ other) end end' rest rest' h k e p q =
-    absurd (no_more version end (before + 0) rest (events_text version other ++ rest') event p (omega (arith, at_most version end' (before + suc (length other)) rest' q)) k.0 (e ∙ regroup version event other rest'))
-same_events version before (event ∷ one) [] end end' rest rest' h k e p q =
-    absurd (no_more version end' (before + 0) rest' (events_text version one ++ rest) event q (omega (arith, at_most version end (before + suc (length one)) rest p)) h.0 (sym e ∙ regroup version event one rest))
-same_events version before (first ∷ one) (second ∷ other) end end' rest rest' h k e p q =
+same_events most version before [] [] end end' rest rest' h k e p q = (refl, e)
+same_events most version before [] (event ∷ other) end end' rest rest' h k e p q =
+    absurd (no_more most version end (before + 0) rest (events_text version other ++ rest') event p (omega (arith, at_most most version end' (before + suc (length other)) rest' q)) k.0 (e ∙ regroup version event other rest'))
+same_events most version before (event ∷ one) [] end end' rest rest' h k e p q =
+    absurd (no_more most version end' (before + 0) rest' (events_text version one ++ rest) event q (omega (arith, at_most most version end (before + suc (length one)) rest p)) h.0 (sym e ∙ regroup version event one rest))
+same_events most version before (first ∷ one) (second ∷ other) end end' rest rest' h k e p q =
     let text = event_text version in
     let lines : line_text (text first) ++ (events_text version one ++ rest) ≡ line_text (text second) ++ (events_text version other ++ rest') = sym (regroup version first one rest) ∙ e ∙ regroup version second other rest' in
     let split = first_lf (text first) (text second) (events_text version one ++ rest) (events_text version other ++ rest') (event_no_lf version first) (event_no_lf version second) lines in
     let event = same_event version first second h.0 k.0 split.0 in
     let count : before + suc (length one) ≡ suc before + length one = omega arith in
     let count' : before + suc (length other) ≡ suc before + length other = omega arith in
-    let tail = same_events version (suc before) one other end end' rest rest' h.1 k.1 split.1
-    (subst (λ c. EndsAt version end c rest) count p) (subst (λ c. EndsAt version end' c rest') count' q) in
+    let tail = same_events most version (suc before) one other end end' rest rest' h.1 k.1 split.1
+    (subst (λ c. EndsAt most version end c rest) count p) (subst (λ c. EndsAt most version end' c rest') count' q) in
     (ap (λ x. x ∷ one) event ∙ ap (λ (l : List Event). second ∷ l) tail.0, tail.1)
 
 -- the header and the bytes behind it
@@ -121,9 +121,9 @@ behind_header : (bytes : List ℕ) (header : Header) (events : List Event) (rest
     → bytes ≡ header_text header ++ (events_text header.version events ++ rest)
 behind_header bytes header events rest e = e ∙ append_assoc (header_text header) (events_text header.version events) rest
 
-pub one_reading : (bytes : List ℕ) (one other : Header) (events events' : List Event) (end end' : Ending) → Reads bytes one events end → Reads bytes other events' end'
+pub one_reading : {most : ℕ} (bytes : List ℕ) (one other : Header) (events events' : List Event) (end end' : Ending) → ReadsWithin most bytes one events end → ReadsWithin most bytes other events' end'
     → (one ≡ other) × (events ≡ events') × (end ≡ end')
-one_reading bytes one other events events' end end' p q =
+one_reading {most} bytes one other events events' end end' p q =
     let version = one.version in
     let rest = p.text.0 in
     let rest' = q.text.0 in
@@ -131,15 +131,15 @@ one_reading bytes one other events events' end end' p q =
     let front' = behind_header bytes other events' rest' q.text.1 in
     let header = same_headers one other (events_text version events ++ rest) (events_text other.version events' ++ rest') p.header_is_readable q.header_is_readable (sym front ∙ front') in
     let back : other.version ≡ version = sym (ap (λ (h : Header). h.version) header.0) in
-    let ends = ends_at version end events rest p.text.2 in
-    let ends' = subst (λ v. EndsAt v end' (length events') rest') back (ends_at other.version end' events' rest' q.text.2) in
+    let ends = ends_at most version end events rest p.text.2 in
+    let ends' = subst (λ v. EndsAt most v end' (length events') rest') back (ends_at most other.version end' events' rest' q.text.2) in
     let readable' = subst (λ v. AllByRecursion (IsReadable v) events') back q.events_are_readable in
     let behind = subst (λ v. events_text version events ++ rest ≡ events_text v events' ++ rest') back header.1 in
     let zero_more : (l : List Event) → length l ≡ 0 + length l = λ l. omega arith in
-    let same = same_events version 0 events events' end end' rest rest' p.events_are_readable readable' behind
-    (subst (λ c. EndsAt version end c rest) (zero_more events) ends) (subst (λ c. EndsAt version end' c rest') (zero_more events') ends') in
-    let moved : EndsAt version end' (length events) rest = rw (same.0, same.1) ends' in
-    (header.0, same.0, same_ending version end end' (length events) rest ends moved)
+    let same = same_events most version 0 events events' end end' rest rest' p.events_are_readable readable' behind
+    (subst (λ c. EndsAt most version end c rest) (zero_more events) ends) (subst (λ c. EndsAt most version end' c rest') (zero_more events') ends') in
+    let moved : EndsAt most version end' (length events) rest = rw (same.0, same.1) ends' in
+    (header.0, same.0, same_ending most version end end' (length events) rest ends moved)
 
 version_first : (version : ℕ) (bytes rest : List ℕ) → bytes ≡ line_text (version_text version) ++ rest → IsFirstLine (version_text version) bytes
 version_first version bytes rest e = (version_line version, version_short version, (rest, e))
@@ -164,7 +164,7 @@ header_isn't_bad bytes rest header number reason is e (inr h) =
     let version : header.version ≡ bad.0 = sym (same_version bad.0 header.version bad.2 is.version behind.0) in
     right_isn't_bad (IsPortsLine bad.0) (ports_text header) bad.1 reason (header, is, version, refl) (ports_line header, ports_short header is, (rest, behind.1)) bad.4
 
-pub no_bad_header : (bytes : List ℕ) (header : Header) (events : List Event) (end : Ending) (number : ℕ) (reason : Reason) → Reads bytes header events end → HasBadHeader bytes number reason → ⊥
+pub no_bad_header : {most : ℕ} (bytes : List ℕ) (header : Header) (events : List Event) (end : Ending) (number : ℕ) (reason : Reason) → ReadsWithin most bytes header events end → HasBadHeader bytes number reason → ⊥
 no_bad_header bytes header events end number reason p bad =
     let rest = events_text header.version events ++ p.text.0 in
     header_isn't_bad bytes rest header number reason p.header_is_readable (header_lines bytes rest header (behind_header bytes header events p.text.0 p.text.1)) bad

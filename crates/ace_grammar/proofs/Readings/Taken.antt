@@ -9,7 +9,7 @@ use Rattle.ace_io.specs.Line.{in_front, CutsLine}
 use Rattle.ace_io.specs.declared.line_buf.LineEnd.{LineEnd}
 use Rattle.ace_io.specs.declared.line_buf.LineEnd.TheVariants.{Whole, NoLf, End}
 use Rattle.ace_grammar.specs.Errors.{TakesFront, LeavesNothing}
-use Rattle.ace_grammar.specs.Reading.{Reads, Ending, Ends, IsReadable, IsReadableHeader, IfTold}
+use Rattle.ace_grammar.specs.Reading.{ReadsWithin, Ending, EndsWithin, IsReadable, IsReadableHeader, IfTold}
 
 -- what was given, and what it holds
 pub taken_front : (old left : Option (List ℕ)) (held text : List ℕ) → Consumes old (in_front held left) text → TakesFront old left
@@ -43,9 +43,9 @@ split bytes text None P c p = absurd c
 split bytes text (Some rest) P c p = (rest, c, p)
 
 -- the text of a trace was taken, and what is left ends so
-pub reads_to : (bytes : List ℕ) (header : Header) (events : List Event) (left : Option (List ℕ)) (ending : Ending) (P : List ℕ → Type 0)
+pub reads_to : {most : ℕ} (bytes : List ℕ) (header : Header) (events : List Event) (left : Option (List ℕ)) (ending : Ending) (P : List ℕ → Type 0)
     → IsReadableHeader header → AllByRecursion (IsReadable header.version) events → Consumes (Some bytes) left (trace_text header events)
-    → IfTold left P → ((rest : List ℕ) → P rest → Ends header.version ending events rest) → Reads bytes header events ending
+    → IfTold left P → ((rest : List ℕ) → P rest → EndsWithin most header.version ending events rest) → ReadsWithin most bytes header events ending
 reads_to bytes header events left ending P readable all text p end =
     let parts = split bytes _ left P text p in
     record { header_is_readable = readable; events_are_readable = all; text = (parts.0, parts.1, end parts.0 parts.2) }

@@ -3,15 +3,15 @@ use Rattle.ace_io.specs.Reader.{line_at}
 use Rattle.ace_grammar.proofs.FirstLines.Cut.{cut_line_is_bad}
 use Rattle.ace_grammar.proofs.lines.read_event.Goals as goal
 
-pub returns-then-count-eq-MOST_EVENTS-clause-next : goal.returns-then-count-eq-MOST_EVENTS-clause-next
-returns-then-count-eq-MOST_EVENTS-clause-next g c =
-    rw c.if-count-eq-MOST_EVENTS.true (c.read_end.ensures.next c.args.version c.args.event.now)
+pub returns-then-count-most-clause-next : goal.returns-then-count-most-clause-next
+returns-then-count-most-clause-next g c =
+    rw c.if-count-most.true (c.read_end.ensures.next c.args.most c.args.version c.args.event.now)
 
-pub returns-then-count-eq-MOST_EVENTS-clause-last : goal.returns-then-count-eq-MOST_EVENTS-clause-last
-returns-then-count-eq-MOST_EVENTS-clause-last g c = c.read_end.ensures.last c.args.event.now
+pub returns-then-count-most-clause-last : goal.returns-then-count-most-clause-last
+returns-then-count-most-clause-last g c = c.read_end.ensures.last c.args.event.now
 
-pub returns-then-count-eq-MOST_EVENTS-clause-cause : goal.returns-then-count-eq-MOST_EVENTS-clause-cause
-returns-then-count-eq-MOST_EVENTS-clause-cause g c = c.read_end.ensures.cause c.args.event.now
+pub returns-then-count-most-clause-cause : goal.returns-then-count-most-clause-cause
+returns-then-count-most-clause-cause g c = c.read_end.ensures.cause c.args.event.now
 
 pub returns-in-Ok-NoLf-default-clause-next : goal.returns-in-Ok-NoLf-default-clause-next
 returns-in-Ok-NoLf-default-clause-next g c =
