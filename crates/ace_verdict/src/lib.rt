@@ -4,8 +4,10 @@
 mod check;
 mod follow;
 pub mod laws;
+mod limits;
 mod verdict;
 
-pub use check::{follow_trace, verdict_on};
+pub use check::{follow_trace, verdict_on, verdict_within};
 pub use follow::{Follower, put_account};
+pub use limits::Limits;
 pub use verdict::Verdict;
