@@ -1,6 +1,6 @@
 -- What an AR or AW asks of each share, and what one without a line leaves of the lines.
 use Rattle.std.proofs.Common.{◌≡◌, ◌<◌, ◌-◌, ◌^◌, ◌≤◌, ◌&&◌, ◌||◌, ℕ, Bool, true, false, not, if◌then◌else◌, nat_le, Option, Some, None, length, refl, sym, ap, subst, ◌∙◌, arith}
-use Rattle.ace_check.proofs.Terms.{IsAccepted, IssuesHalf, Shares, PortCheck, SysCheck, SharesTell, Recording, MayApply, Stands, IsRoomy, after, IsHeard, Fine, ar_kind_of, aw_kind_of, ArKind, AwKind, Write, Event, Ac, Ar, Aw, Header, Transaction, least_broken, least_of, is_no_snoop, k1, k2, k3, k4, k5, k7, k9, k10, may_issue_read, may_issue_write, is_barrier_half, is_line_read, is_line_write, is_no_snoop_read, is_no_snoop_write, may_be_exclusive, is_known, known_lines, k38, lesser, port_rules, line_rules, system_rules, Trace, implies, is_some_and, option_filter, is_line, issued, line_in, goes_over}
+use Rattle.ace_check.proofs.Terms.{IsAccepted, IssuesHalf, Shares, PortCheck, SysCheck, SharesTell, Recording, MayApply, Stands, IsRoomy, after, IsHeard, Fine, ar_kind_of, aw_kind_of, ArKind, AwKind, Write, Event, Ac, Ar, Aw, Header, Transaction, least_broken, least_of, is_no_snoop, k1, k2, k3, k4, k5, k7, k9, k10, may_issue_read, may_issue_write, is_barrier_half, is_line_read, is_line_write, is_no_snoop_read, is_no_snoop_write, may_be_exclusive, is_known, known_lines, k38, lesser, port_rules, line_rules, system_rules, Trace, implies, is_some_and, option_filter, is_line, issued, line_in, goes_over_within}
 use Rattle.ace_codes.specs.declared.kind.ArKind.TheVariants as read
 use Rattle.ace_codes.specs.declared.kind.AwKind.TheVariants as write
 use Rattle.ace_model.proofs.General.Options.{Some-injective}
@@ -24,9 +24,9 @@ lesser-of-two h past e a b p l s = ap (lesser a) (sym (lesser-none b)) ∙ least
 -- ---- a transaction with a line ----
 
 -- it names one too many where its line isn't known and all are
-pub line-over : (past : Trace) (e : Event) (x : Transaction) → issued (length past) e ≡ Some x → is_line x ≡ true
-    → goes_over past e ≡ (not (is_known past x.addr) && nat_le 4096 (length (known_lines past)))
-line-over past e x new on = rw (new, on) refl
+pub line-over : (most : ℕ) (past : Trace) (e : Event) (x : Transaction) → issued (length past) e ≡ Some x → is_line x ≡ true
+    → goes_over_within most past e ≡ (not (is_known past x.addr) && nat_le most (length (known_lines past)))
+line-over most past e x new on = rw (new, on) refl
 
 -- by its codes
 pub read-on_line : (place p i addr snoop dom bar : ℕ) (lock : Bool) (k : ArKind) → ar_kind_of snoop dom bar ≡ Some k → is_line_read k ≡ true
@@ -53,8 +53,8 @@ write-unshared past p i addr snoop dom bar k kind = ap (λ o. is_some_and o is_n
 -- ---- one without a line ----
 
 -- it names none too many
-lineless-over : (past : Trace) (e : Event) (x : Transaction) → issued (length past) e ≡ Some x → is_line x ≡ false → goes_over past e ≡ false
-lineless-over past e x new off = rw (new, off) refl
+lineless-over : (most : ℕ) (past : Trace) (e : Event) (x : Transaction) → issued (length past) e ≡ Some x → is_line x ≡ false → goes_over_within most past e ≡ false
+lineless-over most past e x new off = rw (new, off) refl
 
 -- what is so of ARs and AWs is so of each event that issues a transaction
 each-issue : (P : Event → Transaction → Type 0) (past : Trace)
@@ -121,13 +121,13 @@ pub heard-lineless : (s : Shares) (p : PortCheck) (y : SysCheck) (e : Event) →
     → ((r : Recording) → MayApply s.ports r e → Stands p (after r e)) → ((n : ℕ) → IsRoomy n s.ports → IsRoomy n p) → ((q addr snoop : ℕ) → e ≡ Ac q addr snoop → ⊥)
     → ((r : Recording) → SharesTell s r.header r.past → least_broken r.header r.past e ≡ None → length r.past < 2 ^ 64 - 1
     → (x : Transaction) × (issued (length r.past) e ≡ Some x) × (is_line x ≡ false) × system.Stands y (after r e))
-    → ((past : Trace) → system.IsRoomy 4096 past s.system → system.IsRoomy 4096 past y) → IsHeard s e (record { ports = p; lines = s.lines; system = y }) Fine
+    → ((past : Trace) → system.IsRoomy 4096 past s.system → system.IsRoomy 4096 past y) → IsHeard s e (record { most = s.most; ports = p; lines = s.lines; system = y }) Fine
 heard-lineless s p y e least hear room other tells system =
-    heard-by s (record { ports = p; lines = s.lines; system = y }) e least hear room other
+    heard-by s (record { most = s.most; ports = p; lines = s.lines; system = y }) e refl least hear room other
     (λ r tell fine few.
     let t = tells r tell fine few in
     let none = lineless-off r.header r.past e t.0 t.1 t.2 in
-    (lineless-over r.past e t.0 t.1 t.2, unchanged s.lines r e tell.lines fine none, t.3))
+    (lineless-over s.most r.past e t.0 t.1 t.2, unchanged s.lines r e tell.lines fine none, t.3))
     (λ past roomy. roomy) system
 
 -- ---- which rules the ports may name of it ----

@@ -53,7 +53,8 @@ pub use Rattle.ace_check.specs.Addresses.{ar_of}
 pub use Rattle.ace_check.specs.Found.{IsAcknowledge, found_unless}
 pub use Rattle.ace_check.specs.Heard.{ComesTo, IsHeard}
 pub use Rattle.ace_check.specs.ReadData.{IsNextTransfer}
-pub use Rattle.ace_check.specs.Run.{IsSound, goes_over}
+pub use Rattle.ace_check.specs.Run.{IsSound, goes_over_within}
 pub use Rattle.ace_check.specs.Shares.{SharesTell}
+pub use Rattle.ace_check.specs.declared.heard.Heard.{Heard}
 pub use Rattle.ace_check.specs.declared.heard.Heard.TheVariants.{Broken, Fine, TooManyLines}
 pub use Rattle.ace_check.specs.declared.shares.Shares.{Shares}

@@ -1,8 +1,9 @@
 -- What comes of an event that the shares hear.
 use Rattle.std.proofs.Common.{◌≡◌, ◌<◌, ◌≤◌, ◌-◌, ◌^◌, ◌∷◌, ◌&&◌, ℕ, Bool, true, false, if◌then◌else◌, nat_le, nat_lt, Option, Some, None, length, option_map, unwrap_or, refl, sym, subst, ◌∙◌, arith, inl, inr}
 use Rattle.std.proofs.lemmas.Bool.{and_parts, cases_Bool, leb-true, ltb-true}
-use Rattle.ace_check.proofs.Terms.{Event, Ac, Ar, Aw, Header, Recording, after, Transaction, least_broken, least_of, add_line, known_lines, names_new_line, lesser, port_rules, line_rules, system_rules, Trace, is_some_and, issued, progress_of, LineCheck, SysCheck, IsHeard, goes_over, SharesTell, Fine, Broken, TooManyLines, Shares}
+use Rattle.ace_check.proofs.Terms.{Event, Ac, Ar, Aw, Header, Recording, after, Transaction, least_broken, least_of, add_line, known_lines, names_new_line, lesser, port_rules, line_rules, system_rules, Trace, is_some_and, issued, progress_of, LineCheck, SysCheck, ComesTo, Heard, IsHeard, goes_over_within, SharesTell, Fine, Broken, TooManyLines, Shares}
 use Rattle.ace_portck.proofs.LineMaps.{room-stays}
+use Rattle.ace_lineck.proofs.KnownLines.{few-known}
 use Rattle.ace_portck.specs.Stands as ports
 use Rattle.ace_lineck.specs.Stands as lines
 use Rattle.ace_sysck.specs.Stands as system
@@ -15,7 +16,7 @@ no-progress h past None is = refl
 no-progress h past (Some x) is = let bad : Some (progress_of h past x) ≡ None = is in cc
 
 -- the trace of a run with its next event names no line too many
-lines-fit : (past : Trace) (e : Event) → length (known_lines (e ∷ past)) ≤ 4096 → goes_over past e ≡ true → ⊥
+lines-fit : (past : Trace) (e : Event) → length (known_lines (e ∷ past)) ≤ 4096 → goes_over_within 4096 past e ≡ true → ⊥
 lines-fit past e = by (issued (length past) e)
   where
     by : (o : Option Transaction) → length (add_line past o (known_lines past)) ≤ 4096
@@ -35,25 +36,42 @@ is_plain (Ac p addr snoop) = false
 is_plain _ = true
 
 -- it names no line
-plain-over : (past : Trace) (e : Event) → is_plain e ≡ true → goes_over past e ≡ false
-plain-over past (Ar p i addr snoop dom bar lock) plain = cc
-plain-over past (Aw p i addr snoop dom bar) plain = cc
-plain-over past _ plain = refl
+plain-over : (most : ℕ) (past : Trace) (e : Event) → is_plain e ≡ true → goes_over_within most past e ≡ false
+plain-over most past (Ar p i addr snoop dom bar lock) plain = cc
+plain-over most past (Aw p i addr snoop dom bar) plain = cc
+plain-over most past _ plain = refl
+
+-- a trace of fewer events than 2^64 - 1 names no more lines than there are numbers of a word
+pub never-over : (past : Trace) (e : Event) → length past < 2 ^ 64 - 1 → goes_over_within (2 ^ 64 - 1) past e ≡ true → ⊥
+never-over past e few over =
+    let parts = and_parts (is_some_and (issued (length past) e) (names_new_line past)) (nat_le (2 ^ 64 - 1) (length (known_lines past))) over in
+    let full = leb-true (2 ^ 64 - 1) (length (known_lines past)) parts.1 in
+    let known = few-known past in
+    omega (arith, few, known, full)
 
 module _ (s : Shares) (e : Event) where
   -- an event that breaks a rule, where nothing has changed
   pub heard-broken : (k : ℕ) → ((h : Header) (past : Trace) → SharesTell s h past → Some k ≡ least_broken h past e) → IsHeard s e s (Broken k)
   heard-broken k least = record {
     comes_to = λ h past tell few. (sym (least h past tell), tell);
+    most = refl;
     room = λ h past stand may. let bad : Some k ≡ None = least h past stand.tell ∙ may.fine in cc;
   }
 
   -- one that breaks none, and names one line too many
-  pub heard-over : ((h : Header) (past : Trace) → SharesTell s h past → (least_broken h past e ≡ None) × (goes_over past e ≡ true)) → IsHeard s e s TooManyLines
+  pub heard-over : ((h : Header) (past : Trace) → SharesTell s h past → (least_broken h past e ≡ None) × (goes_over_within s.most past e ≡ true)) → IsHeard s e s TooManyLines
   heard-over over = record {
     comes_to = λ h past tell few. let o = over h past tell in (o.0, o.1, tell);
-    room = λ h past stand may. absurd (lines-fit past e may.lines (over h past stand.tell).1);
+    most = refl;
+    room = λ h past stand may.
+        absurd (lines-fit past e may.lines (subst (λ n. goes_over_within n past e ≡ true) stand.room.most (over h past stand.tell).1));
   }
+
+-- by the limit that the shares keep
+pub comes-within : {old new : Shares} {e : Event} {what found : Heard} {most : ℕ} → IsHeard old e new what → what ≡ found → old.most ≡ most
+    → (h : Header) (past : Trace) → SharesTell old h past → length past < 2 ^ 64 - 1 → ComesTo most h past e new found
+comes-within {old} {new} {e} {what} {found} {most} heard is same h past tell few =
+    subst (λ n. ComesTo n h past e new found) same (subst (ComesTo old.most h past e new) is (heard.comes_to h past tell few))
 
 pub lesser-none : (o : Option ℕ) → lesser o None ≡ o
 lesser-none None = refl
@@ -160,17 +178,19 @@ pub system-roomy : (e : Event) (past : Trace) (s : SysCheck) → system.IsRoomy 
 system-roomy e past s room = room-stays 4096 e past s.registrations.lines room
 
 -- an event that is fine, where each share tells of the trace with it, and keeps its room
-pub heard-fine : (s n : Shares) (e : Event)
+pub heard-fine : (s n : Shares) (e : Event) → n.most ≡ s.most
     → ((h : Header) (past : Trace) → SharesTell s h past → length past < 2 ^ 64 - 1
-    → (least_broken h past e ≡ None) × (goes_over past e ≡ false) × SharesTell n h (e ∷ past))
+    → (least_broken h past e ≡ None) × (goes_over_within s.most past e ≡ false) × SharesTell n h (e ∷ past))
     → (ports.IsRoomy 24576 s.ports → ports.IsRoomy 24576 n.ports)
     → ((past : Trace) → lines.IsRoomy 4096 past s.lines → lines.IsRoomy 4096 past n.lines)
     → ((past : Trace) → system.IsRoomy 4096 past s.system → system.IsRoomy 4096 past n.system) → IsHeard s e n Fine
-heard-fine s n e tells ports lines system = record {
+heard-fine s n e same tells ports lines system = record {
   comes_to = tells;
+  most = same;
   room = λ h past stand may. (
     refl,
     record {
+      most = same ∙ stand.room.most;
       ports = ports stand.room.ports;
       lines = lines-roomy e past n.lines (lines past stand.room.lines);
       system = system-roomy e past n.system (system past stand.room.system);
@@ -179,17 +199,17 @@ heard-fine s n e tells ports lines system = record {
 }
 
 -- what each share makes of an event that is fine and no AC, the ports by what they hear
-module _ (s n : Shares) (e : Event)
+module _ (s n : Shares) (e : Event) (same : n.most ≡ s.most)
     (least : (h : Header) (past : Trace) → SharesTell s h past → None ≡ least_broken h past e)
     (hear : (r : Recording) → ports.MayApply s.ports r e → ports.Stands n.ports (after r e))
     (room : (snoops : ℕ) → ports.IsRoomy snoops s.ports → ports.IsRoomy snoops n.ports) where
   pub heard-by : ((p addr snoop : ℕ) → e ≡ Ac p addr snoop → ⊥)
       → ((r : Recording) → SharesTell s r.header r.past → least_broken r.header r.past e ≡ None → length r.past < 2 ^ 64 - 1
-      → (goes_over r.past e ≡ false) × lines.Stands n.lines (after r e) × system.Stands n.system (after r e))
+      → (goes_over_within s.most r.past e ≡ false) × lines.Stands n.lines (after r e) × system.Stands n.system (after r e))
       → ((past : Trace) → lines.IsRoomy 4096 past s.lines → lines.IsRoomy 4096 past n.lines)
       → ((past : Trace) → system.IsRoomy 4096 past s.system → system.IsRoomy 4096 past n.system) → IsHeard s e n Fine
   heard-by other tells =
-      heard-fine s n e
+      heard-fine s n e same
       (λ h past tell few.
       let r : Recording = record { header = h; past = past } in
       let fine = sym (least h past tell) in
@@ -205,4 +225,4 @@ module _ (s n : Shares) (e : Event)
       → ((past : Trace) → system.IsRoomy 4096 past s.system → system.IsRoomy 4096 past n.system) → IsHeard s e n Fine
   heard-plain plain tells =
       heard-by (λ p addr snoop is. let bad : is_plain (Ac p addr snoop) ≡ true = subst (λ d. is_plain d ≡ true) is plain in cc)
-      (λ r tell fine few. let t = tells r tell fine few in (plain-over r.past e plain, t.0, t.1))
+      (λ r tell fine few. let t = tells r tell fine few in (plain-over s.most r.past e plain, t.0, t.1))

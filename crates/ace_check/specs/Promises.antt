@@ -10,15 +10,19 @@ use Rattle.ace_model.specs.Lines.{known_lines, names_new_line}
 use Rattle.ace_model.specs.Trace.{Trace, is_some_and}
 use Rattle.ace_model.specs.Transactions.{issued}
 
--- the most lines that the transactions of a trace may name
+-- the most lines that the transactions of a trace may name, where no other limit is asked for
 abbrev pub most_lines : ℕ
 most_lines = 4096
 
--- the event is an AR or AW that names one line more than a trace may have
-abbrev pub goes_over : Trace → Event → Bool
-goes_over past e =
+-- the event is an AR or AW that names one line more than so many
+abbrev pub goes_over_within : ℕ → Trace → Event → Bool
+goes_over_within most past e =
     is_some_and (issued (length past) e) (names_new_line past)
-    && nat_le most_lines (length (known_lines past))
+    && nat_le most (length (known_lines past))
+
+-- one more than a trace may have
+abbrev pub goes_over : Trace → Event → Bool
+goes_over past e = goes_over_within most_lines past e
 
 -- What acceptance promises of a trace.
 pub record IsSound (h : Header) (past : Trace) : Type 0 where

@@ -22,8 +22,10 @@ pub record SharesTell (s : Shares) (h : Header) (past : Trace) : Type 0 where
   pub lines : lines.Stands s.lines (record { header = h; past = past })
   pub system : system.Stands s.system (record { header = h; past = past })
 
--- Each share has room for the lines and snoops of a run, of which this is the trace so far.
+-- Each share has room for the lines and snoops of a run, of which this is the trace so far, and no
+-- fewer lines are let through.
 pub record HaveRoom (s : Shares) (past : Trace) : Type 0 where
+  pub most : s.most ≡ most_lines
   pub ports : ports.IsRoomy most_snoops s.ports
   pub lines : lines.IsRoomy most_lines past s.lines
   pub system : system.IsRoomy most_lines past s.system

@@ -2,7 +2,7 @@ use crate::heard::Heard;
 use crate::shares::Shares;
 use ace_event::laws::every_event_fits;
 use ace_event::{Event, Header, Line};
-use ace_model::Break;
+use ace_model::{Break, MOST_LINES};
 use ace_portck::PortCheck;
 use std::alloc::Global;
 use thiserror::Error;
@@ -22,7 +22,8 @@ pub enum CheckErr {
     /// There is no memory for one more line, or for one more snoop under way.
     #[error("out of memory")]
     NoMemory,
-    /// The event breaks no rule, and its transaction names the 4,097th line.
+    /// The event breaks no rule, and its transaction names one line more than the checker takes:
+    /// the 4,097th, where no other limit was asked for.
     #[error("limit lines")]
     TooManyLines,
 }
@@ -47,15 +48,26 @@ impl Checker {
     ghost use Rattle.std.specs.Prelude.{Option};
     ghost use Rattle.ace_model.specs.Copies.{memory_of};
     ghost use Rattle.ace_portck.specs.Stands.{Stands as Tell};
-    ghost use Rattle.ace_check.specs.Run.{Stands, IsAnswer, IsSound, goes_over, past_after, break_after, MayLackMemory};
+    ghost use Rattle.ace_check.specs.Run.{Stands, StandsWithin, IsAnswerWithin, IsSound, goes_over_within, past_after, break_after, MayLackMemory};
 
-    /// The checker of the empty trace under this header. Its only refusal is `NoMemory`.
+    /// The checker of the empty trace under this header, whose transactions may name 4,096 lines. Its
+    /// only refusal is `NoMemory`.
     pub fn new(alloc: Global, header: Header) -> Result<Checker, CheckErr>
         requires { IsHeader header }
         ensures stands { IfOk result (λ c. Stands c header [] None) }
         ensures refusal { IfErr result (λ e. e ≡ CheckErr.NoMemory) }
     {
-        let Ok(shares) = Shares::growing(alloc, header) else {
+        Checker::with_lines(alloc, header, MOST_LINES)
+    }
+
+    /// The same, whose transactions may name at most so many lines. By `usize::MAX` there is no limit
+    /// but memory, since a trace of fewer than 2^64 - 1 events names fewer lines.
+    pub fn with_lines(alloc: Global, header: Header, most: usize) -> Result<Checker, CheckErr>
+        requires { IsHeader header }
+        ensures stands { IfOk result (λ c. StandsWithin most c header [] None) }
+        ensures refusal { IfErr result (λ e. e ≡ CheckErr.NoMemory) }
+    {
+        let Ok(shares) = Shares::growing(alloc, header, most) else {
             return Err(CheckErr::NoMemory);
         };
         Ok(Checker {
@@ -67,27 +79,38 @@ impl Checker {
 
     /// Looks at the next event of the trace, of fewer than 2^64 - 1. Where it breaks no rule, the
     /// checker stands for the longer trace. Where it breaks one, that break is the answer from then
-    /// on. `TooManyLines` comes exactly where the event breaks no rule and names line 4,097;
-    /// `NoMemory` only where more snoops of a port are under way than ever before, at the first
-    /// transaction or MEM of a line, and at the first exclusive grant of a line. After either the
-    /// checker stands where it did.
+    /// on. `TooManyLines` comes exactly where the event breaks no rule and names a line too many, and
+    /// never from a checker of `usize::MAX` lines; `NoMemory` only where more snoops of a port are
+    /// under way than ever before, at the first transaction or MEM of a line, and at the first
+    /// exclusive grant of a line. After either the checker stands where it did.
     #[inline(always)]
     pub fn feed(&mut self, event: &Event) -> Result<Step, CheckErr>
-        ensures answer { (h : Header) (past : Trace) → Stands self.old h past None
-            → IfOk result (IsAnswer h past event.now) }
-        ensures stands { (h : Header) (past : Trace) → Stands self.old h past None
+        ensures answer { (most : ℕ) (h : Header) (past : Trace)
+            → StandsWithin most self.old h past None
+            → IfOk result (IsAnswerWithin most h past event.now) }
+        ensures stands { (most : ℕ) (h : Header) (past : Trace)
+            → StandsWithin most self.old h past None
             → length past < 2 ^ 64 - 2 → IfOk result (λ s.
-            Stands self.new h (past_after past event.now s) (break_after s)) }
-        ensures stays { (h : Header) (past : Trace) → Stands self.old h past None
-            → OnErr result (Stands self.new h past None) }
-        ensures too_many { (h : Header) (past : Trace) → Stands self.old h past None
-            → result ≡ Err CheckErr.TooManyLines
-            → (least_broken h past event.now ≡ None) × (goes_over past event.now ≡ true) }
-        ensures no_memory { (h : Header) (past : Trace) → Stands self.old h past None
+            StandsWithin most self.new h (past_after past event.now s) (break_after s)) }
+        ensures stays { (most : ℕ) (h : Header) (past : Trace)
+            → StandsWithin most self.old h past None
+            → OnErr result (StandsWithin most self.new h past None) }
+        ensures too_many { (most : ℕ) (h : Header) (past : Trace)
+            → StandsWithin most self.old h past None → result ≡ Err CheckErr.TooManyLines
+            → (least_broken h past event.now ≡ None)
+            × (goes_over_within most past event.now ≡ true) }
+        ensures unlimited { (h : Header) (past : Trace)
+            → StandsWithin (2 ^ 64 - 1) self.old h past None
+            → result ≡ Err CheckErr.TooManyLines → ⊥ }
+        ensures no_memory { (most : ℕ) (h : Header) (past : Trace)
+            → StandsWithin most self.old h past None
             → result ≡ Err CheckErr.NoMemory → MayLackMemory h past event.now }
-        ensures broken { (h : Header) (past : Trace) (b : Break) → Stands self.old h past (Some b)
-            → (result ≡ Ok (Step.Broken b.index b.rule)) × Stands self.new h past (Some b) }
-        ensures sound { (h : Header) (past : Trace) → Stands self.old h past None
+        ensures broken { (most : ℕ) (h : Header) (past : Trace) (b : Break)
+            → StandsWithin most self.old h past (Some b)
+            → (result ≡ Ok (Step.Broken b.index b.rule))
+            × StandsWithin most self.new h past (Some b) }
+        ensures sound { (most : ℕ) (h : Header) (past : Trace)
+            → StandsWithin most self.old h past None
             → result ≡ Ok Step.Fine → IsSound h (event.now ∷ past) }
     {
         if let Some(Break { index, rule }) = self.broken {
@@ -111,7 +134,8 @@ impl Checker {
 
     /// What is kept of each port.
     pub fn ports(&self) -> &PortCheck
-        ensures { (h : Header) (past : Trace) (b : Option Break) → Stands self.now h past b
+        ensures { (most : ℕ) (h : Header) (past : Trace) (b : Option Break)
+            → StandsWithin most self.now h past b
             → Tell result.now (record { header = h; past = past }) }
     {
         &self.shares.ports
@@ -119,7 +143,8 @@ impl Checker {
 
     /// Memory of the line.
     pub fn memory(&self, line: u32) -> Line
-        ensures { (h : Header) (past : Trace) (b : Option Break) → Stands self.now h past b
+        ensures { (most : ℕ) (h : Header) (past : Trace) (b : Option Break)
+            → StandsWithin most self.now h past b
             → result ≡ memory_of past line }
     {
         self.shares.lines.memory(line)
@@ -127,7 +152,8 @@ impl Checker {
 
     /// How many events were answered `Fine`.
     pub fn count(&self) -> u64
-        ensures { (h : Header) (past : Trace) (b : Option Break) → Stands self.now h past b
+        ensures { (most : ℕ) (h : Header) (past : Trace) (b : Option Break)
+            → StandsWithin most self.now h past b
             → result ≡ length past }
     {
         self.count

@@ -7,11 +7,10 @@ ghost use Rattle.ace_model.specs.Kinds.{is_line_read};
 ghost use Rattle.ace_model.specs.Lines.{is_known, known_lines};
 ghost use Rattle.ace_model.specs.Trace.{Trace, option_filter};
 ghost use Rattle.ace_lineck.specs.Stands.{place_on};
-ghost use Rattle.ace_check.specs.Shares.{SharesTell, most_lines};
+ghost use Rattle.ace_check.specs.Shares.{SharesTell};
 
 use crate::shares::Shares;
 use ace_codes::{ArKind, read_ar};
-use ace_model::MOST_LINES;
 use ace_model::kinds::is_line_read;
 
 /// The kind of a line read, by the fields of its AR.
@@ -26,15 +25,15 @@ pub(crate) fn line_read_kind(snoop: u8, dom: u8, bar: u8) -> Option<ArKind>
 }
 
 impl Shares {
-    /// A transaction on the line whose record stands at the place names one line more than a trace
-    /// may have.
+    /// A transaction on the line whose record stands at the place names one line more than these
+    /// shares let through.
     #[inline(always)]
     pub(crate) fn is_line_too_many(&self, place: Option<usize>) -> bool
         ensures { (h : Header) (past : Trace) (line : ℕ) → SharesTell self.now h past
             → place ≡ place_on self.now.lines (Some line)
             → result ≡ (not (is_known past line)
-            && nat_le most_lines (length (known_lines past))) }
+            && nat_le self.now.most (length (known_lines past))) }
     {
-        !self.lines.knows(place) && self.lines.lines() >= MOST_LINES
+        !self.lines.knows(place) && self.lines.lines() >= self.most
     }
 }

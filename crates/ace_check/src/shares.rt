@@ -21,9 +21,10 @@ use ace_sysck::SysCheck;
 use std::alloc::Global;
 
 /// What is kept of a trace by the three shares of the rules: of each port, of each line, and of the
-/// system as a whole.
+/// system as a whole; and how many lines the transactions of the trace may name.
 #[derive(Drop)]
 pub struct Shares {
+    pub(crate) most: usize,
     pub(crate) ports: PortCheck,
     pub(crate) lines: LineCheck,
     pub(crate) system: SysCheck,
@@ -43,21 +44,24 @@ impl Shares {
         let lines = LineCheck::with_room(alloc, header, MOST_LINES)?;
         let system = SysCheck::with_room(alloc, header, MOST_LINES)?;
         Ok(Shares {
+            most: MOST_LINES,
             ports,
             lines,
             system,
         })
     }
 
-    /// The shares of the empty trace, which take room as they need it.
-    pub(crate) fn growing(alloc: Global, header: Header) -> Result<Shares, NoMemory>
+    /// The shares of the empty trace, which take room as they need it, for at most so many lines.
+    pub(crate) fn growing(alloc: Global, header: Header, most: usize) -> Result<Shares, NoMemory>
         requires { IsHeader header }
-        ensures { IfOk result (λ s. SharesTell s header []) }
+        ensures tell { IfOk result (λ s. SharesTell s header []) }
+        ensures most { IfOk result (λ s. s.most ≡ most) }
     {
         let ports = PortCheck::new(alloc, header)?;
         let lines = LineCheck::new(alloc, header);
         let system = SysCheck::new(alloc, header)?;
         Ok(Shares {
+            most,
             ports,
             lines,
             system,

@@ -2,7 +2,7 @@
 
 use crate::barrier_cases::{BARRIER_ADDRESSES, BARRIER_ANSWERS};
 use crate::cases::Ports::{self, AceAndLite, ThreeAce, TwoAce};
-use crate::cases::{Case, GET, g, rk};
+use crate::cases::{Case, GET, ar, g, rk};
 use crate::line_cases::{
     ACKNOWLEDGES, ADDRESSES, ANSWERS, GETS_A_HELD_LINE, GRANTS, PORTS_AND_CODES, SNOOPS, TRANSFERS,
 };
@@ -111,6 +111,33 @@ fn stays_broken(rt: HostRuntime) -> Result<(), Fail> {
     let lasting = is_lasting(&mut checker);
     drop(checker);
     assert!(rt; lasting?);
+    Ok(())
+}
+
+/// Port 0 reads so many lines, one after the other. How many the checker takes, and why not the next.
+fn lines_taken(checker: &mut Checker, lines: u32) -> (u32, Option<CheckErr>) {
+    for line in 0..lines {
+        let id = (line % 256) as u8;
+        if let Err(why) = checker.feed(&ar!(0, id, line.wrapping_mul(64), 7, 1, 0, false)) {
+            return (line, Some(why));
+        }
+    }
+    (lines, None)
+}
+
+/// A checker of three lines takes three, and one without a limit more than the others.
+#[test]
+fn limits_of_lines(rt: HostRuntime) -> Result<(), Fail> {
+    for (most, taken) in [
+        (0, (0, Some(CheckErr::TooManyLines))),
+        (3, (3, Some(CheckErr::TooManyLines))),
+        (usize::MAX, (5000, None)),
+    ] {
+        let mut checker = Checker::with_lines(rt.alloc(), TWO_ACE, most)?;
+        let answered = lines_taken(&mut checker, 5000);
+        drop(checker);
+        assert!(rt; answered == taken);
+    }
     Ok(())
 }
 

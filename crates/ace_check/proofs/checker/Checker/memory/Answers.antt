@@ -1,4 +1,4 @@
 use Rattle.ace_check.proofs.checker.Checker.memory.Goals as goal
 
 pub returns : goal.returns
-returns c = λ h past b s. c.memory.ensures (record { header = h; past = past }) s.tell.lines
+returns c = λ most h past b s. c.memory.ensures (record { header = h; past = past }) s.tell.lines

@@ -22,6 +22,7 @@ returns-then-is_err c =
             inl (from_err c.make_snoop_room.result err c.make_snoop_room.ensures.cause r a.addr a.snoop s.ports),
             record { ports = c.make_snoop_room.ensures.stands r s.ports; lines = s.lines; system = s.system },
           );
+      most = refl;
       room = λ h past s may.
           let there = room-for-next h past (Ac a.port a.addr a.snoop) 24576 a.self.now.ports s.tell.ports.ports s.room.ports may.snoops in
           absurd (err_is_no_ok c.make_snoop_room.result err (c.make_snoop_room.ensures.succeeds a.addr a.snoop there));
@@ -34,7 +35,7 @@ returns-then-is_line_snoop c =
     let on = sym c.is_line_snoop.ensures ∙ c.if-is_line_snoop.true in
     let f = c.in-Ok.ensures.found in
     let one = line-by-kind a.snoop c.in-Ok.found.0 _ f.0 on in
-    heard-fine s0 _ (Ac a.port a.addr a.snoop)
+    heard-fine s0 _ (Ac a.port a.addr a.snoop) refl
     (λ h past s few.
     let r : Recording = record { header = h; past = past } in
     let fine = sym (c.in-Ok.ensures.least h past s) in
@@ -55,7 +56,7 @@ returns c =
     let s0 = a.self.now in
     let f = c.in-Ok.ensures.found in
     let off = line-by-kind a.snoop c.in-Ok.found.0 _ f.0 (sym c.is_line_snoop.ensures ∙ c.if-is_line_snoop.false) in
-    heard-fine s0 _ (Ac a.port a.addr a.snoop)
+    heard-fine s0 _ (Ac a.port a.addr a.snoop) refl
     (λ h past s few.
     let r : Recording = record { header = h; past = past } in
     let fine = sym (c.in-Ok.ensures.least h past s) in

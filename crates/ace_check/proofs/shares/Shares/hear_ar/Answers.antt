@@ -32,7 +32,7 @@ returns-then-is_line_too_many c =
     let x = read_of (length past) a.port a.id a.addr a.snoop a.dom a.bar a.lock in
     let on = read-on_line (length past) a.port a.id a.addr a.snoop a.dom a.bar a.lock k codes.0 codes.1 in (
       sym (c.rule_of_line_ar.ensures h past a.snoop a.dom a.bar s c.place-place.ensures codes.0 codes.1) ∙ c.in_default-rule_of_line_ar.is,
-      line-over past e x refl on ∙ sym (c.is_line_too_many.ensures h past a.addr s c.place-place.ensures) ∙ c.if-is_line_too_many.true,
+      line-over a.self.now.most past e x refl on ∙ sym (c.is_line_too_many.ensures h past a.addr s c.place-place.ensures) ∙ c.if-is_line_too_many.true,
     ))
 
 pub returns-in_default-make_record : goal.returns-in_default-make_record
@@ -52,6 +52,7 @@ returns-in_default-make_record c =
             inr (inl (address-begins s0.lines r e x s.lines refl on (c.in_default-make_record.ensures.cause at))),
             record { ports = s.ports; lines = c.make_record.ensures.stands r s.lines at; system = s.system },
           );
+      most = refl;
       room = λ h past s may.
           let x = read_of (length past) a.port a.id a.addr a.snoop a.dom a.bar a.lock in
           let on = read-on_line (length past) a.port a.id a.addr a.snoop a.dom a.bar a.lock k codes.0 codes.1 in
@@ -75,19 +76,21 @@ returns c =
           let fine = sym (c.rule_of_line_ar.ensures h past a.snoop a.dom a.bar s at codes.0 codes.1) ∙ c.in_default-rule_of_line_ar.is in
           let unshared = c.is_no_snoop_read.ensures ∙ sym (read-unshared (length past) a.port a.id a.addr a.snoop a.dom a.bar a.lock k codes.0) in (
             fine,
-            line-over past e x refl on ∙ sym (c.is_line_too_many.ensures h past a.addr s at) ∙ c.if-is_line_too_many.false,
+            line-over a.self.now.most past e x refl on ∙ sym (c.is_line_too_many.ensures h past a.addr s at) ∙ c.if-is_line_too_many.false,
             record {
               ports = c.hear.ensures.stands r (may-apply s0.ports h past e s.ports fine few (λ p addr snoop is. cc));
               lines = c.hear_address.ensures.stands r e x (c.make_record.ensures.stands r s.lines at) refl on unshared (c.in-Ok.ensures.room at) (c.in-Ok.ensures.made at) fine few;
               system = c.begin_line_read.ensures.stands r a.addr a.snoop a.dom a.bar a.lock k s.system codes.0 codes.1 fine few;
             },
           );
+      most = refl;
       room = λ h past s may.
           let x = read_of (length past) a.port a.id a.addr a.snoop a.dom a.bar a.lock in
           let on = read-on_line (length past) a.port a.id a.addr a.snoop a.dom a.bar a.lock k codes.0 codes.1 in
           let later = address-roomy 4096 past s0.lines e x refl on s.room.lines in (
             refl,
             record {
+              most = s.room.most;
               ports = c.hear.ensures.room 24576 s.room.ports;
               lines = c.hear_address.ensures.roomy 4096 (e ∷ past) (c.make_record.ensures.roomy 4096 (e ∷ past) later.0 at later.1);
               system = system-roomy e past c.begin_line_read.new.self (c.begin_line_read.ensures.roomy 4096 past s.room.system);

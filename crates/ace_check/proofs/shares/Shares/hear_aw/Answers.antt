@@ -33,7 +33,7 @@ returns-then-is_line_too_many c =
     let x = write_issued past a.port a.id a.addr a.snoop a.dom a.bar in
     let on = write-on_line past a.port a.id a.addr a.snoop a.dom a.bar k codes.0 codes.1 in (
       sym (c.rule_of_line_aw.ensures h past a.snoop a.dom a.bar s c.place-place.ensures (sym c.line_write_kind.ensures ∙ c.in-Some.is)) ∙ c.in_default-rule_of_line_aw.is,
-      line-over past e x refl on ∙ sym (c.is_line_too_many.ensures h past a.addr s c.place-place.ensures) ∙ c.if-is_line_too_many.true,
+      line-over a.self.now.most past e x refl on ∙ sym (c.is_line_too_many.ensures h past a.addr s c.place-place.ensures) ∙ c.if-is_line_too_many.true,
     ))
 
 pub returns-in_default-make_record : goal.returns-in_default-make_record
@@ -53,6 +53,7 @@ returns-in_default-make_record c =
             inr (inl (address-begins s0.lines r e x s.lines refl on (c.in_default-make_record.ensures.cause at))),
             record { ports = s.ports; lines = c.make_record.ensures.stands r s.lines at; system = s.system },
           );
+      most = refl;
       room = λ h past s may.
           let x = write_issued past a.port a.id a.addr a.snoop a.dom a.bar in
           let on = write-on_line past a.port a.id a.addr a.snoop a.dom a.bar k codes.0 codes.1 in
@@ -77,19 +78,21 @@ returns c =
           let unshared = c.is_no_snoop_write.ensures ∙ sym (write-unshared past a.port a.id a.addr a.snoop a.dom a.bar k codes.0) in
           let ports-after = c.hear.ensures.stands r (may-apply s0.ports h past e s.ports fine few (λ p addr snoop is. cc)) in (
             fine,
-            line-over past e x refl on ∙ sym (c.is_line_too_many.ensures h past a.addr s at) ∙ c.if-is_line_too_many.false,
+            line-over a.self.now.most past e x refl on ∙ sym (c.is_line_too_many.ensures h past a.addr s at) ∙ c.if-is_line_too_many.false,
             record {
               ports = ports-after;
               lines = c.hear_address.ensures.stands r e x (c.make_record.ensures.stands r s.lines at) refl on unshared (c.in-Ok.ensures.room at) (c.in-Ok.ensures.made at) fine few;
               system = system-begun s0.system r a.port a.id a.addr a.snoop a.dom a.bar k s.system (sym c.line_write_kind.ensures ∙ c.in-Some.is) fine few ports-after.bytes.0;
             },
           );
+      most = refl;
       room = λ h past s may.
           let x = write_issued past a.port a.id a.addr a.snoop a.dom a.bar in
           let on = write-on_line past a.port a.id a.addr a.snoop a.dom a.bar k codes.0 codes.1 in
           let later = address-roomy 4096 past s0.lines e x refl on s.room.lines in (
             refl,
             record {
+              most = s.room.most;
               ports = c.hear.ensures.room 24576 s.room.ports;
               lines = c.hear_address.ensures.roomy 4096 (e ∷ past) (c.make_record.ensures.roomy 4096 (e ∷ past) later.0 at later.1);
               system = system-roomy e past s0.system s.room.system;

@@ -15,7 +15,7 @@ returns-in-None c =
     let a = c.args in
     let s0 = a.self.now in
     let x = c.in-Ok.found.0.now in
-    heard-plain s0 _ (B a.port a.id a.resp) (λ h past s. c.in-Ok.ensures.least (record { header = h; past = past }) s.ports s.lines s.system) c.hear.ensures.stands c.hear.ensures.room refl
+    heard-plain s0 _ (B a.port a.id a.resp) refl (λ h past s. c.in-Ok.ensures.least (record { header = h; past = past }) s.ports s.lines s.system) c.hear.ensures.stands c.hear.ensures.room refl
     (λ r s fine few.
     let f = c.in-Ok.ensures.found r s.ports in
     let out = progress_from r.header r.past (outstanding r.header r.past a.port Write a.id) x f.0 in
@@ -28,7 +28,7 @@ returns-in-Some c =
     let a = c.args in
     let s0 = a.self.now in
     let x = c.in-Ok.found.0.now in
-    heard-plain s0 _ (B a.port a.id a.resp) (λ h past s. c.in-Ok.ensures.least (record { header = h; past = past }) s.ports s.lines s.system) c.hear-in-Some.ensures.stands c.hear-in-Some.ensures.room refl
+    heard-plain s0 _ (B a.port a.id a.resp) refl (λ h past s. c.in-Ok.ensures.least (record { header = h; past = past }) s.ports s.lines s.system) c.hear-in-Some.ensures.stands c.hear-in-Some.ensures.room refl
     (λ r s fine few.
     let f = c.in-Ok.ensures.found r s.ports in
     let out = progress_from r.header r.past (outstanding r.header r.past a.port Write a.id) x f.0 in (

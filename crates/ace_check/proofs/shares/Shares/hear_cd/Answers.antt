@@ -11,7 +11,7 @@ pub returns : goal.returns
 returns c =
     let a = c.args in
     let e = Cd a.port a.last a.word in
-    heard-plain a.self.now _ e c.in-Ok.ensures.least c.hear.ensures.stands c.hear.ensures.room refl
+    heard-plain a.self.now _ e refl c.in-Ok.ensures.least c.hear.ensures.stands c.hear.ensures.room refl
     (λ r s fine few.
     let f = c.in-Ok.ensures.found r.header r.past s in
     (c.hear_sent.ensures.stands r c.in-Ok.found.0 a.last a.word s.lines f.0 f.1 f.2 fine few, system_still a.self.now.system r e refl s.system fine few))

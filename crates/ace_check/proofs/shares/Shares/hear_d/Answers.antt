@@ -11,7 +11,7 @@ pub returns : goal.returns
 returns c =
     let a = c.args in
     let e = D a.port a.addr a.strobe a.x a.line.now in
-    heard-plain a.self.now _ e (λ h past s. sym c.in_default.is ∙ c.rule_of_d.ensures.least h past a.line.now s) c.hear.ensures.stands c.hear.ensures.room refl
+    heard-plain a.self.now _ e refl (λ h past s. sym c.in_default.is ∙ c.rule_of_d.ensures.least h past a.line.now s) c.hear.ensures.stands c.hear.ensures.room refl
     (λ r s fine few.
     let owned = c.is_some-owned.ensures ∙ some-mapped c.own.result _ ∙ ap is_some (c.own.ensures r s.ports) ∙ c.rule_of_d.ensures.own r.header r.past s c.in_default.is in
     (c.hear_store.ensures.stands r a.addr a.x s.lines c.place-place.ensures owned fine few, c.store.ensures.stands r a.addr a.strobe a.line.now s.system fine few))

@@ -27,6 +27,7 @@ returns-then-is_err c =
             inr (inr (first-lock s0.system r a.port a.chan a.id y.transaction s.system out fine lock none)),
             record { ports = s.ports; lines = s.lines; system = c.make_lock_room.ensures.stands r s.system },
           );
+      most = refl;
       room = λ h past s may.
           let r : Recording = record { header = h; past = past } in
           let out = progress_from h past (outstanding h past a.port a.chan a.id) y (c.in-Ok.ensures.found r s.tell.ports).served in
@@ -55,12 +56,14 @@ returns c =
               system = c.hear_grant-taken.ensures.stands r a.port a.chan a.id (c.make_lock_room.ensures.stands r s.system) out fine few (c.hear_grant-taken.ensures.takes made);
             },
           );
+      most = refl;
       room = λ h past s may.
           let r : Recording = record { header = h; past = past } in
           let out = progress_from h past (outstanding h past a.port a.chan a.id) y (c.in-Ok.ensures.found r s.tell.ports).served in
           let known = grant-known s0.system r a.port a.chan a.id y.transaction s.tell.system out may.fine in (
             refl,
             record {
+              most = s.room.most;
               ports = c.hear.ensures.room 24576 s.room.ports;
               lines = lines-roomy e past _ (c.hear_grant.ensures.roomy 4096 past s.room.lines);
               system = system-roomy e past c.hear_grant-taken.new.self (c.hear_grant-taken.ensures.roomy 4096 past (c.make_lock_room.ensures.roomy 4096 past known s.room.system));

@@ -32,7 +32,7 @@ returns c none =
     let lineless : (h : Header) (past : Trace) → SharesTell s0 h past → is_line_read k ≡ false = λ h past s.
     let t = found h past s in
     sym (ap (λ o. is_some_and o is_line) (transfer-of h past a.port a.id a.resp a.last a.word x k t) ∙ line-by-kind x.transaction k t.kind) ∙ none h past s in
-    heard-plain s0 _ (R a.port a.id a.resp a.last a.word)
+    heard-plain s0 _ (R a.port a.id a.resp a.last a.word) refl
     (λ h past s. sym c.in_default.is ∙ c.rule_of_lineless_r-rule.ensures (record { header = h; past = past }) a.port a.id a.last s.ports s.lines s.system (found h past s) (lineless h past s))
     c.hear.ensures.stands c.hear.ensures.room refl
     (λ r s fine few.

@@ -11,7 +11,7 @@ pub returns : goal.returns
 returns c =
     let a = c.args in
     let e = M a.port a.chan a.id a.line.now in
-    heard-plain a.self.now _ e (λ h past s. c.in-Ok.ensures.least (record { header = h; past = past }) s.ports s.lines) c.hear.ensures.stands c.hear.ensures.room refl
+    heard-plain a.self.now _ e refl (λ h past s. c.in-Ok.ensures.least (record { header = h; past = past }) s.ports s.lines) c.hear.ensures.stands c.hear.ensures.room refl
     (λ r s fine few.
     let f = c.in-Ok.ensures.found r s.ports in
     (c.hear_memory_write.ensures.stands r a.port a.chan a.id s.lines f.served f.at fine few, system_still a.self.now.system r e refl s.system fine few))

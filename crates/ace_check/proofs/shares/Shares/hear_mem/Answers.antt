@@ -21,6 +21,7 @@ returns-in_default-make_record c =
           let r : Recording = record { header = h; past = past } in
           let fine = sym (c.rule_of_mem.ensures h past a.line.now s) ∙ c.in_default.is in
           (fine, inr (inl tt), record { ports = s.ports; lines = c.make_record.ensures.stands r s.lines c.place-place.ensures; system = s.system });
+      most = refl;
       room = λ h past s may. let bad : false ≡ true = may.port in cc;
     }
 
@@ -42,5 +43,6 @@ returns c =
               system = system_still s0.system r e refl s.system fine few;
             },
           );
+      most = refl;
       room = λ h past s may. let bad : false ≡ true = may.port in cc;
     }

@@ -32,7 +32,7 @@ returns c =
     let x = c.in-Ok.found.0.now in
     let k = c.in-Ok.found.1 in
     let line : is_line_read k ≡ true = sym c.is_line_read.ensures ∙ c.if-not-is_line_read.false in
-    heard-plain a.self.now _ (R a.port a.id a.resp a.last a.word)
+    heard-plain a.self.now _ (R a.port a.id a.resp a.last a.word) refl
     (λ h past s.
     let r : Recording = record { header = h; past = past } in
     sym c.in_default.is ∙ c.rule_of_line_r-rule.ensures r a.port a.id a.last s.lines s.system (c.in-Ok.ensures.found r a.word s.ports) line c.place-place.ensures)

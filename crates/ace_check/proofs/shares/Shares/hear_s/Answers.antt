@@ -10,6 +10,6 @@ pub returns : goal.returns
 returns c =
     let a = c.args in
     let e = S a.port a.addr a.st in
-    heard-plain a.self.now _ e (λ h past s. sym c.in_default.is ∙ c.rule_of_s.ensures h past s) c.hear.ensures.stands c.hear.ensures.room refl
+    heard-plain a.self.now _ e refl (λ h past s. sym c.in_default.is ∙ c.rule_of_s.ensures h past s) c.hear.ensures.stands c.hear.ensures.room refl
     (λ r s fine few. (c.hear_change.ensures.stands r a.addr s.lines c.place-place.ensures fine few, c.change.ensures.stands r s.system fine few))
     (c.hear_change.ensures.roomy 4096) (c.change.ensures.roomy 4096)

@@ -12,6 +12,6 @@ pub returns : goal.returns
 returns c =
     let a = c.args in
     let e = W a.port a.strb a.last a.word in
-    heard-plain a.self.now _ e (λ h past s. sym c.in_default.is ∙ c.rule_of_w.ensures h past s) c.hear.ensures.stands c.hear.ensures.room refl
+    heard-plain a.self.now _ e refl (λ h past s. sym c.in_default.is ∙ c.rule_of_w.ensures h past s) c.hear.ensures.stands c.hear.ensures.room refl
     (λ r s fine few. (lines-still a.self.now.lines r e refl s.lines fine, system_still a.self.now.system r e refl s.system fine few))
     (λ past room. room) (λ past room. room)

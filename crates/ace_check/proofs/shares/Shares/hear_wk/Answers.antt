@@ -8,7 +8,7 @@ returns-in-Err c = heard-broken c.args.self.now _ c.in-Err.rule (λ h past s. c.
 
 pub returns : goal.returns
 returns c =
-    heard-plain c.args.self.now _ (Wk c.args.port c.args.st) (λ h past s. c.in-Ok.ensures.least (record { header = h; past = past }) s.ports s.lines)
+    heard-plain c.args.self.now _ (Wk c.args.port c.args.st) refl (λ h past s. c.in-Ok.ensures.least (record { header = h; past = past }) s.ports s.lines)
     c.hear.ensures.stands c.hear.ensures.room refl
     (λ r s fine few.
     let f = c.in-Ok.ensures.found r s.ports in
