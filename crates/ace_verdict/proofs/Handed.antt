@@ -11,6 +11,7 @@ use Rattle.ace_grammar.proofs.Readings.OneMore.{events_text-more}
 use Rattle.ace_grammar.specs.Errors.{TakesFront}
 use Rattle.ace_grammar.specs.Front.{HandsAllOver, HasTakenAll}
 use Rattle.ace_grammar.specs.Reading.{IsReadable}
+use Rattle.ace_account.specs.declared.listener.Account.{Account}
 use Rattle.ace_model.specs.Accepted.{least_broken}
 use Rattle.ace_check.specs.Promises.{goes_over_within}
 use Rattle.ace_verdict.specs.declared.verdict.Verdict.{Verdict}
@@ -82,8 +83,8 @@ pub all_accounts : (version count : ℕ) (f f' : Follower) (left left' : Option 
 all_accounts version count f f' left left' handed = accounts_all handed.events f f' handed.taken
 
 -- for which a trace can be followed within the same limits
-pub same_account_can : (f f' : Follower) (limits : Limits) → asked_of f ≡ asked_of f' → CanFollow (asked_of f') limits → CanFollow (asked_of f) limits
-same_account_can f f' limits same can = subst (λ a. CanFollow a limits) (sym same) can
+pub same_account_can : (one other : Option Account) (limits : Limits) → one ≡ other → CanFollow other limits → CanFollow one limits
+same_account_can one other limits same can = subst (λ a. CanFollow a limits) (sym same) can
 
 -- where a follower had come so far, it has come further by them
 events_come : (limits : Limits) (h : Header) (start : Option (List ℕ)) (events : List Event) (f f' : Follower) (count count' : ℕ) (left left' : Option (List ℕ))
@@ -100,7 +101,7 @@ events_come limits h start (event ∷ events) f f' count count' left left' can m
     (subst (Consumes left left') (ap (events_text h.version) e ∙ events_text-more h.version (reverse events) event) text) in
     let parts = readable_parts h.version (reverse events) event (subst (AllByRecursion (IsReadable h.version)) e readable) in
     let some = events_come limits h start events f between count (length events + count) left lines.0 can refl (omega (arith, more, few)) parts.0 lines.1 before come in
-    one_comes limits between f' event (length events + count) count' h start lines.0 left' (same_account_can between f limits (accounts_all events f between before) can)
+    one_comes limits between f' event (length events + count) count' h start lines.0 left' (same_account_can (asked_of between) (asked_of f) limits (accounts_all events f between before) can)
     (omega (arith, more)) (omega (arith, more, few)) parts.1 lines.2 last
     (subst (λ o. HasComeTo limits o between (length events + count) h start lines.0) on some)
 
