@@ -17,6 +17,7 @@ use Rattle.ace_bin.specs.declared.error.BinErr.{BinErr}
 use Rattle.ace_bin.specs.Errors as binary
 use Rattle.ace_grammar.specs.Lines.{BeginsWith}
 use Rattle.ace_grammar.specs.Reader as tr
+use Rattle.ace_grammar.specs.Reading.{most_events}
 use Rattle.ace_grammar.proofs.Readings.OneMore.{trace_text-more}
 use Rattle.ace_bin.specs.declared.reader.BinReader.{BinReader}
 use Rattle.ace_bin.specs.Binary.{header_bytes}
@@ -42,10 +43,10 @@ pub record HasRead (form : Form) (bytes : List ℕ) (unread : Option (List ℕ))
   text : Consumes (Some bytes) unread (spelt form header events)
 
 pub text_read : {S : Type 0} {g : Ghosts S} (left : S → Option (List ℕ)) (bytes : List ℕ) (events : List Event) (r : Reader S g) (header : Header)
-    → tr.header_of r ≡ header → tr.HasRead left bytes events r → HasRead forms.Text bytes (tr.unread left r) header events
-text_read left bytes events r header is h =
+    → tr.header_of r ≡ header → tr.most_of r ≡ most_events → tr.HasRead left bytes events r → HasRead forms.Text bytes (tr.unread left r) header events
+text_read left bytes events r header is most h =
     subst (λ (d : Header). HasRead forms.Text bytes (tr.unread left r) d events) is
-    (record { trace = record { header_is_right = h.header_is_readable; events_in_range = h.events_are_readable; few = h.few }; text = h.text })
+    (record { trace = record { header_is_right = h.header_is_readable; events_in_range = h.events_are_readable; few = omega (arith, most, h.few) }; text = h.text })
 
 pub binary_read : {S : Type 0} {g : Ghosts S} (left : S → Option (List ℕ)) (bytes : List ℕ) (events : List Event) (r : BinReader S g) (header : Header)
     → br.header_of r ≡ header → br.HasRead left bytes events r → HasRead forms.Binary bytes (br.unread left r) header events

@@ -1,6 +1,6 @@
 -- What the readers of the two forms answer, said of both.
 use Rattle.std.specs.Prelude.{⊤}
-use Rattle.std.proofs.Common.{◌≡◌, ◌≢◌, ◌<◌, ◌+◌, ℕ, List, Option, None, Some, Result, Ok, Err, IfErr, OnOk, refl}
+use Rattle.std.proofs.Common.{◌≡◌, ◌≢◌, ◌<◌, ◌+◌, ℕ, List, Option, None, Some, Result, Ok, Err, IfErr, OnOk, refl, subst, arith}
 use Rattle.std.proofs.KnownBytes.{Consumes-trans}
 use Rattle.ace_event.specs.declared.event.Event.{Event}
 use Rattle.ace_event.specs.Range.{InRange}
@@ -12,6 +12,7 @@ use Rattle.ace_grammar.specs.declared.reader.Reader.{Reader}
 use Rattle.ace_grammar.specs.Errors as text
 use Rattle.ace_grammar.specs.Reader as tr
 use Rattle.ace_grammar.specs.Reading.{most_events}
+use Rattle.ace_grammar.specs.Reading as readings
 use Rattle.ace_bin.specs.declared.error.BinErr.{BinErr}
 use Rattle.ace_bin.specs.declared.error.BinErr.TheVariants as be
 use Rattle.ace_bin.specs.declared.reader.BinReader.{BinReader}
@@ -68,19 +69,19 @@ pub ruleset starting = (text_none, text_none_cause, binary_none, binary_none_cau
 
 -- ---- the next event of a text
 
-pub text_range : (event : Event) (r : Result (Option ⊤) ReadErr) (version count : ℕ) (old new left : Option (List ℕ))
-    → text.StandsNext version (text.with_event event r) count old new left
+pub text_range : (event : Event) (r : Result (Option ⊤) ReadErr) (most version count : ℕ) (old new left : Option (List ℕ))
+    → text.StandsNextWithin most version (text.with_event event r) count old new left
     → OnOk (of_text r) (InRange version event)
-text_range event (Ok (Some put)) version count old new left s = s.1
-text_range event (Ok None) version count old new left s = tt
-text_range event (Err error) version count old new left s = tt
+text_range event (Ok (Some put)) most version count old new left s = s.1
+text_range event (Ok None) most version count old new left s = tt
+text_range event (Err error) most version count old new left s = tt
 
-pub text_room : (event : Event) (r : Result (Option ⊤) ReadErr) (version count : ℕ) (old new left : Option (List ℕ))
-    → text.StandsNext version (text.with_event event r) count old new left
+pub text_room : (event : Event) (r : Result (Option ⊤) ReadErr) (most version count : ℕ) (old new left : Option (List ℕ))
+    → most ≡ most_events → text.StandsNextWithin most version (text.with_event event r) count old new left
     → OnOk (of_text r) (count < most_events)
-text_room event (Ok (Some put)) version count old new left s = s.0
-text_room event (Ok None) version count old new left s = tt
-text_room event (Err error) version count old new left s = tt
+text_room event (Ok (Some put)) most version count old new left is s = omega (arith, is, s.0)
+text_room event (Ok None) most version count old new left is s = tt
+text_room event (Err error) most version count old new left is s = tt
 
 pub text_count : (event : Event) (r : Result (Option ⊤) ReadErr) (count count' : ℕ) → count' ≡ tr.count_after count (text.with_event event r)
     → OnOk (of_text r) (count' ≡ count + 1)
@@ -94,24 +95,24 @@ text_on event (Ok (Some put)) last is = is
 text_on event (Ok None) last is = tt
 text_on event (Err error) last is = tt
 
-pub text_nothing : (event : Event) (r : Result (Option ⊤) ReadErr) (version count : ℕ) (old new left : Option (List ℕ)) → of_text r ≡ Err Whole
-    → text.StandsNext version (text.with_event event r) count old new left
+pub text_nothing : (event : Event) (r : Result (Option ⊤) ReadErr) (most version count : ℕ) (old new left : Option (List ℕ)) → of_text r ≡ Err Whole
+    → text.StandsNextWithin most version (text.with_event event r) count old new left
     → text.LeavesNothing old left
-text_nothing event (Ok (Some put)) version count old new left is s = absurd cc
-text_nothing event (Ok None) version count old new left is s = s.2
-text_nothing event (Err (te.Malformed line reason)) version count old new left is s = absurd cc
-text_nothing event (Err te.TooManyEvents) version count old new left is s = absurd cc
-text_nothing event (Err te.ReadFault) version count old new left is s = absurd cc
-text_nothing event (Err te.NoMemory) version count old new left is s = absurd cc
+text_nothing event (Ok (Some put)) most version count old new left is s = absurd cc
+text_nothing event (Ok None) most version count old new left is s = s.2
+text_nothing event (Err (te.Malformed line reason)) most version count old new left is s = absurd cc
+text_nothing event (Err te.TooManyEvents) most version count old new left is s = absurd cc
+text_nothing event (Err te.ReadFault) most version count old new left is s = absurd cc
+text_nothing event (Err te.NoMemory) most version count old new left is s = absurd cc
 
-pub text_memory : (event : Event) (r : Result (Option ⊤) ReadErr) (version count : ℕ) (old new left : Option (List ℕ))
-    → text.StandsNext version (text.with_event event r) count old new left → of_text r ≢ Err NoMemory
-text_memory event (Ok (Some put)) version count old new left s is = absurd cc
-text_memory event (Ok None) version count old new left s is = absurd cc
-text_memory event (Err (te.Malformed line reason)) version count old new left s is = absurd cc
-text_memory event (Err te.TooManyEvents) version count old new left s is = absurd cc
-text_memory event (Err te.ReadFault) version count old new left s is = absurd cc
-text_memory event (Err te.NoMemory) version count old new left s is = absurd s
+pub text_memory : (event : Event) (r : Result (Option ⊤) ReadErr) (most version count : ℕ) (old new left : Option (List ℕ))
+    → text.StandsNextWithin most version (text.with_event event r) count old new left → of_text r ≢ Err NoMemory
+text_memory event (Ok (Some put)) most version count old new left s is = absurd cc
+text_memory event (Ok None) most version count old new left s is = absurd cc
+text_memory event (Err (te.Malformed line reason)) most version count old new left s is = absurd cc
+text_memory event (Err te.TooManyEvents) most version count old new left s is = absurd cc
+text_memory event (Err te.ReadFault) most version count old new left s is = absurd cc
+text_memory event (Err te.NoMemory) most version count old new left s is = absurd s
 
 pub text_steady : (event : Event) (r : Result (Option ⊤) ReadErr) (before now : ℕ) → text.HasFaultCause (text.with_event event r) before now
     → OnOk (of_text r) (now ≡ before)
@@ -129,17 +130,17 @@ text_cause event (Err te.ReadFault) before now c = rose before now c
 text_cause event (Err te.NoMemory) before now c = stays before now NoMemory (λ is. absurd cc) c
 
 pub text_reads : {S : Type 0} {g : Ghosts S} (left : S → Option (List ℕ)) (bytes : List ℕ) (events : List Event) (old new : Reader S g) (event : Event) (r : Result (Option ⊤) ReadErr)
-    → tr.HasRead left bytes events old → tr.IsReading left bytes events old new (text.with_event event r)
+    → tr.most_of old ≡ most_events → tr.HasRead left bytes events old → tr.IsReading left bytes events old new (text.with_event event r)
     → IsReading forms.Text (λ more. tr.HasRead left bytes more new) bytes (left (tr.source_of new).now) (tr.header_of old) events (with_event event (of_text r))
-text_reads left bytes events old new event (Ok (Some put)) h i = i
-text_reads left bytes events old new event (Ok None) h i = i
-text_reads left bytes events old new event (Err (te.Malformed line reason)) h i = i
-text_reads left bytes events old new event (Err te.TooManyEvents) h i = i
-text_reads left bytes events old new event (Err te.ReadFault) h (taken, none, short, took) = (
-  record { header_is_right = h.header_is_readable; events_in_range = h.events_are_readable; few = h.few },
+text_reads left bytes events old new event (Ok (Some put)) most h i = i
+text_reads left bytes events old new event (Ok None) most h i = subst (λ n. readings.ReadsWithin n bytes (tr.header_of old) events readings.Whole) most i
+text_reads left bytes events old new event (Err (te.Malformed line reason)) most h i = subst (λ n. readings.ReadsWithin n bytes (tr.header_of old) events (readings.Bad line reason)) most i
+text_reads left bytes events old new event (Err te.TooManyEvents) most h i = subst (λ n. readings.ReadsWithin n bytes (tr.header_of old) events readings.Full) most i
+text_reads left bytes events old new event (Err te.ReadFault) most h (taken, none, short, took) = (
+  record { header_is_right = h.header_is_readable; events_in_range = h.events_are_readable; few = omega (arith, most, h.few) },
   (taken, (none, short), Consumes-trans (Some bytes) (tr.unread left old) (left (tr.source_of new).now) _ _ h.text took),
 )
-text_reads left bytes events old new event (Err te.NoMemory) h i = absurd i
+text_reads left bytes events old new event (Err te.NoMemory) most h i = absurd i
 
 -- ---- the next event of a binary trace
 

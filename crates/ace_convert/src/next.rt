@@ -24,9 +24,11 @@ use ace_io::Source;
 /// How the reading ends where there is none.
 #[tactic(auto, using(crate::proofs::ReaderLemmas::reading))]
 pub fn next_in_text<S: Source>(reader: &mut Reader<S>, event: &mut Event) -> Result<(), TraceEnd>
-    requires { text.last_answer reader.old ≡ None }
+    requires most { text.most_of reader.old ≡ most_events }
+    requires reads_on { text.last_answer reader.old ≡ None }
     ensures same_source { (text.source_of reader.new).ghost_name ≡ (text.source_of reader.old).ghost_name }
     ensures same_header { text.header_of reader.new ≡ text.header_of reader.old }
+    ensures same_most { text.most_of reader.new ≡ text.most_of reader.old }
     ensures in_range { OnOk result (InRange (text.header_of reader.old).version event.new) }
     ensures room { OnOk result (text.count_of reader.old < most_events) }
     ensures count { OnOk result (text.count_of reader.new ≡ text.count_of reader.old + 1) }

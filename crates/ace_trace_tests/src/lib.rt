@@ -4,6 +4,8 @@
 #[cfg(test)]
 mod handed;
 #[cfg(test)]
+mod limits;
+#[cfg(test)]
 mod pieces;
 #[cfg(test)]
 mod records;

@@ -21,7 +21,11 @@ fn answers<S: Source>(
 }
 
 /// Whether so many calls read an event, and the four after them have this end, which stays.
-fn has_rest<S: Source>(reader: &mut Reader<S>, count: u8, end: &Result<Header, ReadErr>) -> bool {
+pub fn has_rest<S: Source>(
+    reader: &mut Reader<S>,
+    count: u8,
+    end: &Result<Header, ReadErr>,
+) -> bool {
     for turn in 0..count.saturating_add(4) {
         if !answers(reader, turn < count, end) {
             return false;
