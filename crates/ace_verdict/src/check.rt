@@ -22,11 +22,14 @@ use std::alloc::Global;
 /// The verdict on the trace that the input gives, which has at most 1,048,576 events and names at
 /// most 4,096 lines.
 pub fn verdict_on<S: Source>(alloc: Global, input: &mut S) -> Verdict
-    // Where the input tells its bytes, it is the verdict on them. Of an accepted trace none are left, and it has all that
-    // acceptance promises: it is coherent, its exclusive stores are exclusive, its barriers order, and its Syncs wait for all.
+    // Where the input tells its bytes, it is the verdict on them. Of an accepted trace none are
+    // left, and it has all that acceptance promises: it is coherent, its exclusive stores are
+    // exclusive, its barriers order, and its Syncs wait for all.
     ensures verdict { IfSome (S.left input.old) (λ bytes. IsVerdict bytes result) }
-    ensures whole { (events : ℕ) → result ≡ Accepted events → LeavesNothing (S.left input.old) (S.left input.new) }
-    ensures sound { (events : ℕ) → result ≡ Accepted events → IfSome (S.left input.old) ReadsSound }
+    ensures whole { (events : ℕ) → result ≡ Accepted events
+        → LeavesNothing (S.left input.old) (S.left input.new) }
+    ensures sound { (events : ℕ) → result ≡ Accepted events
+        → IfSome (S.left input.old) ReadsSound }
 
     // It is a read fault exactly where the input failed.
     ensures cause { HasReadCause (S.faults input.old) (S.faults input.new) result }
@@ -39,8 +42,10 @@ pub fn verdict_on<S: Source>(alloc: Global, input: &mut S) -> Verdict
 pub fn verdict_within<S: Source>(alloc: Global, input: &mut S, limits: Limits) -> Verdict
     requires counted { limits.events ≤ most_counted }
     ensures verdict { IfSome (S.left input.old) (λ bytes. IsVerdictWithin limits bytes result) }
-    ensures whole { (events : ℕ) → result ≡ Accepted events → LeavesNothing (S.left input.old) (S.left input.new) }
-    ensures sound { (events : ℕ) → result ≡ Accepted events → IfSome (S.left input.old) (ReadsSoundWithin limits.events) }
+    ensures whole { (events : ℕ) → result ≡ Accepted events
+        → LeavesNothing (S.left input.old) (S.left input.new) }
+    ensures sound { (events : ℕ) → result ≡ Accepted events
+        → IfSome (S.left input.old) (ReadsSoundWithin limits.events) }
     ensures cause { HasReadCause (S.faults input.old) (S.faults input.new) result }
 {
     match follow_within(alloc, input, None, limits) {
@@ -60,7 +65,8 @@ pub fn follow_trace<S: Source>(
     account: Option<Account>,
 ) -> Result<Follower, Verdict>
     ensures accepted { IfOk result (HasFollowed trace_limits (S.left input.old)) }
-    ensures verdict { IfErr result (λ verdict. IfSome (S.left input.old) (λ bytes. IsVerdict bytes verdict)) }
+    ensures verdict { IfErr result (λ verdict.
+        IfSome (S.left input.old) (λ bytes. IsVerdict bytes verdict)) }
     ensures refusal { IfErr result IsRefusal }
     ensures account { IfOk result (λ f. asked_of f ≡ account) }
     ensures whole { OnOk result (LeavesNothing (S.left input.old) (S.left input.new)) }
@@ -81,7 +87,8 @@ fn follow_within<S: Source>(
 ) -> Result<Follower, Verdict>
     requires can { CanFollow account limits }
     ensures accepted { IfOk result (HasFollowed limits (S.left input.old)) }
-    ensures verdict { IfErr result (λ verdict. IfSome (S.left input.old) (λ bytes. IsVerdictWithin limits bytes verdict)) }
+    ensures verdict { IfErr result (λ verdict.
+        IfSome (S.left input.old) (λ bytes. IsVerdictWithin limits bytes verdict)) }
     ensures refusal { IfErr result IsRefusal }
     ensures account { IfOk result (λ f. asked_of f ≡ account) }
     ensures whole { OnOk result (LeavesNothing (S.left input.old) (S.left input.new)) }

@@ -1,4 +1,5 @@
-//! The verdict on the text of a trace: the reader, the checker and what hears an account, from the bytes of a source to the answer.
+//! The verdict on the text of a trace: the reader, the checker and what hears an account, from the
+//! bytes of a source to the answer.
 #![tactic(auto)]
 
 mod check;
