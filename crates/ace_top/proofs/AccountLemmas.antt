@@ -1,16 +1,16 @@
 -- What `report` and `order` answer.
-use Rattle.std.proofs.Common.{◌≡◌, ℕ, List, [], Option, None, Some, IfSome, reverse, refl, sym, subst, ap, inl, codes, ◌++◌, ◌∙◌, append-nil}
+use Rattle.std.proofs.Common.{◌≡◌, ℕ, List, [], Option, None, Some, IfSome, reverse, refl, sym, subst, ap, inl, codes, ◌∙◌, append-nil}
 use Rattle.std.proofs.lemmas.List.{reverse-reverse}
 use Rattle.std.specs.Io.KnownBytes.{Appends}
 use Rattle.std.proofs.KnownBytes.{Appends-nil}
 use Rattle.ace_account.specs.Accounts.{IsAccount}
 use Rattle.ace_account.specs.declared.listener.Account.{Account}
-use Rattle.ace_event.specs.declared.header.Header.{Header}
 use Rattle.ace_model.specs.Trace.{Trace}
 use Rattle.ace_verdict.specs.declared.follow.Follower.{Follower}
 use Rattle.ace_verdict.specs.declared.verdict.Verdict.{Verdict}
 use Rattle.ace_verdict.specs.declared.verdict.Verdict.TheVariants as verdicts
 use Rattle.ace_verdict.specs.Follow.{HasFollowed}
+use Rattle.ace_verdict.specs.Limits.{trace_limits}
 use Rattle.ace_verdict.specs.Progress.{IsRefusal}
 use Rattle.ace_verdict.specs.Verdict.{IsVerdict}
 use Rattle.ace_top.specs.declared.answer.Answer.{Answer}
@@ -26,21 +26,21 @@ use Rattle.ace_top.proofs.Parts.{both_nothing}
 use Rattle.ace_top.proofs.WrittenLemmas.{alone}
 
 -- an account of the trace that was followed is one of the trace that was read
-reported : (account : Account) (told : Option (List ℕ)) (f : Follower) (w : HasFollowed told f) (text : List ℕ) → IsAccount account w.header w.past text
+reported : (account : Account) (told : Option (List ℕ)) (f : Follower) (w : HasFollowed trace_limits told f) (text : List ℕ) → IsAccount account w.header w.past text
     → IfSome told (λ bytes. ReportsTrace account bytes text)
 reported account None f w text is = tt
 reported account (Some bytes) f w text is =
     (w.header, reverse w.past, (w.reads, w.unbroken), subst (λ (past : Trace). IsAccount account w.header past text) (sym (reverse-reverse w.past)) is)
 
 -- an account that was given
-pub account_answers : (account : Account) (told left : Option (List ℕ)) (f : Follower) (w : HasFollowed told f) (text : List ℕ) (status : ℕ) (out out' out'' notes notes' : Option (List ℕ))
+pub account_answers : (account : Account) (told left : Option (List ℕ)) (f : Follower) (w : HasFollowed trace_limits told f) (text : List ℕ) (status : ℕ) (out out' out'' notes notes' : Option (List ℕ))
     → IsAccount account w.header w.past text → status ≡ status_of Reported → Appends out out' text → Appends out' out'' (out_text_of Reported) → Appends notes notes' (notes_text_of Reported)
     → Answers (command.Account account) told left status out out'' notes notes'
 account_answers account told left f w text status out out' out'' notes notes' is same given more noted =
     (Reported, text, tt, reported account told f w text is, same, alone out out' out'' text [] refl given more, noted)
 
 -- one that an output broke off behind its text
-pub account_breaks_after : (account : Account) (told left : Option (List ℕ)) (f : Follower) (w : HasFollowed told f) (text : List ℕ) (out out' out'' notes notes' : Option (List ℕ))
+pub account_breaks_after : (account : Account) (told left : Option (List ℕ)) (f : Follower) (w : HasFollowed trace_limits told f) (text : List ℕ) (out out' out'' notes notes' : Option (List ℕ))
     → IsAccount account w.header w.past text → Appends out out' text → AppendsPart out' out'' (out_text_of Reported) → AppendsParts notes notes' (notes_text_of Reported) (codes "write fault\n")
     → BreaksOff (command.Account account) told left out out'' notes notes'
 account_breaks_after account told left f w text out out' out'' notes notes' is given (part, rest, cut, more) parts =
@@ -54,7 +54,7 @@ account_breaks_after account told left f w text out out' out'' notes notes' is g
     )
 
 -- one that the standard output broke off
-pub account_breaks_off : (account : Account) (told left : Option (List ℕ)) (f : Follower) (w : HasFollowed told f) (text : List ℕ) (out out' notes notes' : Option (List ℕ))
+pub account_breaks_off : (account : Account) (told left : Option (List ℕ)) (f : Follower) (w : HasFollowed trace_limits told f) (text : List ℕ) (out out' notes notes' : Option (List ℕ))
     → IsAccount account w.header w.past text → AppendsPart out out' text → AppendsPart notes notes' (codes "write fault\n") → BreaksOff (command.Account account) told left out out' notes notes'
 account_breaks_off account told left f w text out out' notes notes' is part noted =
     inl (Reported, text, tt, reported account told f w text is, part, (notes, ([], [], refl, Appends-nil notes), noted))

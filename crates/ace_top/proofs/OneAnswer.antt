@@ -1,17 +1,13 @@
 -- The answer that is due to bytes is that which their one reading has.
-use Rattle.std.proofs.Common.{◌≡◌, ◌≤◌, ℕ, List, [], ◌∷◌, ◌++◌, Option, None, Some, length, reverse, refl, sym, ap, subst, ◌∙◌, inl, inr, Bool, true, false, ◌+◌, arith}
-use Rattle.ace_event.specs.declared.header.Header.{Header}
-use Rattle.ace_event.specs.declared.event.Event.{Event}
-use Rattle.ace_grammar.specs.declared.reason.Reason.{Reason}
-use Rattle.ace_grammar.specs.Reading.{Ending, Ends, Whole, Full, Bad, Reads, HasBadHeader, most_events}
-use Rattle.ace_grammar.proofs.Readings.EveryReading.{some_reading}
-use Rattle.ace_grammar.proofs.Readings.Fronts.{front_is_read, front_is_good}
-use Rattle.ace_grammar.proofs.Readings.OneReading.{one_reading, no_bad_header, one_bad_header}
+use Rattle.std.proofs.Common.{◌≡◌, ℕ, List, [], Option, Some, length, reverse, refl, sym, ap, subst, ◌∙◌}
+use Rattle.ace_grammar.specs.Reading.{Whole}
+use Rattle.ace_grammar.proofs.Readings.OneReading.{one_reading}
 use Rattle.ace_account.proofs.SomeAccount.{some_account}
 use Rattle.ace_account.specs.declared.listener.Account.{Account}
 use Rattle.ace_account.specs.declared.listener.Account.TheVariants as accounts
 use Rattle.ace_verdict.specs.declared.verdict.Verdict.{Verdict}
 use Rattle.ace_verdict.specs.declared.verdict.Verdict.TheVariants as verdicts
+use Rattle.ace_verdict.specs.Limits.{trace_limits}
 use Rattle.ace_verdict.specs.Verdict.{IsDueVerdict, IsVerdict}
 use Rattle.ace_verdict.proofs.OneVerdict.{one_verdict, some_verdict}
 use Rattle.ace_verdict.proofs.Sound.{all_in_fields}
@@ -33,7 +29,7 @@ use Rattle.ace_top.specs.declared.words.Command.TheVariants.{Check, Convert, Run
 use Rattle.ace_top.specs.declared.words.Command.TheVariants as command
 use Rattle.ace_top.specs.Answer.{CanBeInput, IsAnswer, FitsAnswer, IsDue, IsSettled}
 use Rattle.ace_top.specs.Generate.{IsGenerated, script_of}
-use Rattle.ace_top.specs.Report.{AreAccepted, IsReported}
+use Rattle.ace_top.specs.Report.{IsReported}
 use Rattle.ace_top.specs.Texts.{out_text_of}
 use Rattle.ace_top.proofs.OneScript.{one_unread, some_ran, some_tried}
 
@@ -56,7 +52,7 @@ verdict_due verdicts.LimitLines d = tt
 
 one_checked : (bytes : List ℕ) (answer other : Answer) → IsDue answer → IsDue other → IsChecked bytes answer → IsChecked bytes other → answer ≡ other
 one_checked bytes answer other d o (verdict, is, v) (second, was, w) =
-    is ∙ ap verdict_answer (one_verdict bytes verdict second (due_verdict verdict (subst IsDue is d)) (due_verdict second (subst IsDue was o)) v w) ∙ sym was
+    is ∙ ap verdict_answer (one_verdict trace_limits bytes verdict second (due_verdict verdict (subst IsDue is d)) (due_verdict second (subst IsDue was o)) v w) ∙ sym was
 
 -- ---- accounts
 
@@ -108,7 +104,7 @@ one_account account bytes answer other text more settled d o r s =
 some_told : (account : Account) (bytes : List ℕ) (verdict : Verdict) → IsDueVerdict verdict → IsVerdict bytes verdict
     → (told : Answer) × (text : List ℕ) × IsDue told × FitsAnswer (command.Account account) told text × IsReported account bytes told text
 some_told account bytes (verdicts.Accepted count) d (header, events, reads, none, is) =
-    let a = some_account account header (reverse events) (no_stop_accepted header events none) (all_in_fields header.version events reads.events_are_readable) in
+    let a = some_account account header (reverse events) (no_stop_accepted trace_limits.lines header events none) (all_in_fields header.version events reads.events_are_readable) in
     (Reported, a.0, tt, tt, (header, events, (reads, none), a.1))
 some_told account bytes (verdicts.Refused index rule) d v =
     (Refused index rule, out_text_of (Refused index rule), tt, refl, ((verdicts.Refused index rule, refl, v), refl))
@@ -188,10 +184,10 @@ fits_written conversion answer text d = tt
 pub some_answer : (command : Command) (bytes : List ℕ) (left : Option (List ℕ)) → CanBeInput command bytes
     → (answer : Answer) × (text : List ℕ) × IsDue answer × FitsAnswer command answer text × IsAnswer command (Some bytes) left answer text
 some_answer Check bytes left can =
-    let v = some_verdict bytes in
+    let v = some_verdict trace_limits bytes in
     (verdict_answer v.0, out_text_of (verdict_answer v.0), verdict_due v.0 v.1, refl, (v.0, refl, v.2))
 some_answer (command.Account account) bytes left can =
-    let v = some_verdict bytes in
+    let v = some_verdict trace_limits bytes in
     some_told account bytes v.0 v.1 v.2
 some_answer (Convert conversion) bytes left can =
     let w = some_written conversion bytes left can in

@@ -2,12 +2,13 @@
 use Rattle.std.proofs.Common.{◌≡◌, ℕ, List, Option, None, Some, IfSome, Err, refl, subst, inl}
 use Rattle.ace_grammar.specs.declared.error.ReadErr.{ReadErr}
 use Rattle.ace_grammar.specs.declared.error.ReadErr.TheVariants as error
-use Rattle.ace_grammar.specs.Errors.{HasNoHeader, StandsNext, HasFaultCause}
+use Rattle.ace_grammar.specs.Errors.{HasNoHeader, HasFaultCause}
+use Rattle.ace_verdict.specs.declared.limits.Limits.{Limits}
 use Rattle.ace_verdict.specs.declared.verdict.Verdict.{Verdict}
 use Rattle.ace_verdict.specs.declared.verdict.Verdict.TheVariants.{Refused, LimitLines, NoMemory}
 use Rattle.ace_verdict.specs.Errors.{refusal_of}
 use Rattle.ace_verdict.specs.Progress.{IsRefusal, IsStop, HasReadCause}
-use Rattle.ace_verdict.specs.Verdict.{IsVerdict}
+use Rattle.ace_verdict.specs.Verdict.{IsVerdictWithin}
 
 -- no trace is accepted at an error
 pub error_refusal : (e : ReadErr) → IsRefusal (refusal_of e)
@@ -33,11 +34,11 @@ error_cause before now error.ReadFault c = record { failed = λ is. c; steady = 
 error_cause before now error.NoMemory c = record { failed = λ is. absurd cc; steady = λ not. c }
 
 -- the same where there is no header
-pub no_header_verdict : (e : ReadErr) (old new : Option (List ℕ)) (before now : ℕ) → HasNoHeader e old before new now → IfSome old (λ bytes. IsVerdict bytes (refusal_of e))
-no_header_verdict e None new before now n = tt
-no_header_verdict (error.Malformed line reason) (Some bytes) new before now n = inl n.0
-no_header_verdict error.TooManyEvents (Some bytes) new before now n = absurd n
-no_header_verdict e (Some bytes) new before now n = tt
+pub no_header_verdict : (limits : Limits) (e : ReadErr) (old new : Option (List ℕ)) (before now : ℕ) → HasNoHeader e old before new now → IfSome old (λ bytes. IsVerdictWithin limits bytes (refusal_of e))
+no_header_verdict limits e None new before now n = tt
+no_header_verdict limits (error.Malformed line reason) (Some bytes) new before now n = inl n.0
+no_header_verdict limits error.TooManyEvents (Some bytes) new before now n = absurd n
+no_header_verdict limits e (Some bytes) new before now n = tt
 
 pub no_header_cause : (e : ReadErr) (old new : Option (List ℕ)) (before now : ℕ) → HasNoHeader e old before new now → HasReadCause before now (refusal_of e)
 no_header_cause (error.Malformed line reason) old new before now n = error_cause before now (error.Malformed line reason) n.2

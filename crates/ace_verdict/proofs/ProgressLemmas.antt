@@ -12,22 +12,23 @@ use Rattle.ace_grammar.proofs.Readings.OneMore.{readable-more, trace_text-more}
 use Rattle.ace_grammar.proofs.Readings.Taken.{split, reads_to, at_end}
 use Rattle.ace_grammar.specs.declared.error.ReadErr.{ReadErr}
 use Rattle.ace_grammar.specs.declared.error.ReadErr.TheVariants as error
-use Rattle.ace_grammar.specs.Errors.{TakesFront, LeavesNothing, StandsNext}
-use Rattle.ace_grammar.specs.Reading.{Reads, Ending, Ends, Whole, Full, Bad, IsReadable, IsReadableHeader, HasBadLine, IfTold, most_events}
+use Rattle.ace_grammar.specs.Errors.{TakesFront, LeavesNothing, StandsNextWithin}
+use Rattle.ace_grammar.specs.Reading.{ReadsWithin, Ending, EndsWithin, Whole, Full, Bad, IsReadable, IsReadableHeader, HasBadLine, IfTold}
 use Rattle.ace_model.specs.Accepted.{least_broken}
-use Rattle.ace_check.specs.Promises.{goes_over}
+use Rattle.ace_check.specs.Promises.{goes_over_within}
 use Rattle.ace_verdict.specs.declared.verdict.Verdict.{Verdict}
 use Rattle.ace_verdict.specs.declared.verdict.Verdict.TheVariants.{Refused, LimitLines, NoMemory}
 use Rattle.ace_verdict.specs.declared.follow.Follower.{Follower}
+use Rattle.ace_verdict.specs.declared.limits.Limits.{Limits}
 use Rattle.ace_verdict.specs.Follow.{Follows, HasCome, HasFollowed}
 use Rattle.ace_verdict.specs.Errors.{refusal_of}
 use Rattle.ace_verdict.specs.Progress.{IsFine, StandsAt, StopsAt}
-use Rattle.ace_verdict.specs.Verdict.{Stop, Breaks, GoesOver, IsVerdict, ReadsUnbroken, BeginsStopped, first_stop}
+use Rattle.ace_verdict.specs.Verdict.{Stop, Breaks, GoesOver, IsVerdictWithin, ReadsUnbroken, BeginsStopped, first_stop_within}
 use Rattle.ace_verdict.proofs.Stops.{no_stop, next_breaks, next_goes_over}
 
 -- nothing was read but the header
-pub stands_at_start : (told left : Option (List ℕ)) (h : Header) → IsReadableHeader h → Consumes told left (header_text h) → StandsAt told h [] left
-stands_at_start told left h readable consumed = record {
+pub stands_at_start : (lines : ℕ) (told left : Option (List ℕ)) (h : Header) → IsReadableHeader h → Consumes told left (header_text h) → StandsAt lines told h [] left
+stands_at_start lines told left h readable consumed = record {
   header_is_readable = readable;
   events_are_readable = tt;
   text = rw append-nil consumed;
@@ -35,11 +36,11 @@ stands_at_start told left h readable consumed = record {
 }
 
 -- one more event was read and found fine
-pub stands_further : (told : Option (List ℕ)) (h : Header) (past : List Event) (event : Event) (left left' : Option (List ℕ)) → IsReadable h.version event
-    → Consumes left left' (line_text (event_text h.version event)) → (least_broken h past event ≡ None) × (goes_over past event ≡ false)
-    → StandsAt told h past left
-    → StandsAt told h (event ∷ past) left'
-stands_further told h past event left left' readable taken fine s =
+pub stands_further : (lines : ℕ) (told : Option (List ℕ)) (h : Header) (past : List Event) (event : Event) (left left' : Option (List ℕ)) → IsReadable h.version event
+    → Consumes left left' (line_text (event_text h.version event)) → (least_broken h past event ≡ None) × (goes_over_within lines past event ≡ false)
+    → StandsAt lines told h past left
+    → StandsAt lines told h (event ∷ past) left'
+stands_further lines told h past event left left' readable taken fine s =
     let e : reverse (event ∷ past) ≡ reverse past ++ event ∷ [] = reverse-append (event ∷ []) past in
     record {
       header_is_readable = s.header_is_readable;
@@ -49,29 +50,30 @@ stands_further told h past event left left' readable taken fine s =
     }
 
 -- the bytes end so
-ends : (told : Option (List ℕ)) (h : Header) (past : List Event) (left : Option (List ℕ)) (ending : Ending) (P : List ℕ → Type 0)
-    → StandsAt told h past left → IfTold left P → ((rest : List ℕ) → P rest → Ends h.version ending (reverse past) rest)
-    → IfSome told (λ bytes. Reads bytes h (reverse past) ending)
-ends None h past left ending P s p end = tt
-ends (Some bytes) h past left ending P s p end = reads_to bytes h (reverse past) left ending P s.header_is_readable s.events_are_readable s.text p end
+ends : (limits : Limits) (told : Option (List ℕ)) (h : Header) (past : List Event) (left : Option (List ℕ)) (ending : Ending) (P : List ℕ → Type 0)
+    → StandsAt limits.lines told h past left → IfTold left P → ((rest : List ℕ) → P rest → EndsWithin limits.events h.version ending (reverse past) rest)
+    → IfSome told (λ bytes. ReadsWithin limits.events bytes h (reverse past) ending)
+ends limits None h past left ending P s p end = tt
+ends limits (Some bytes) h past left ending P s p end = reads_to bytes h (reverse past) left ending P s.header_is_readable s.events_are_readable s.text p end
 
 -- the trace that was read is whole
-pub followed_at_end : (told : Option (List ℕ)) (h : Header) (past : List Event) (left : Option (List ℕ)) (f : Follower)
-    → length past ≤ most_events → IsAtEnd left → StandsAt told h past left → Follows f h past → HasFollowed told f
-followed_at_end told h past left f few end s follows = record {
+pub followed_at_end : (limits : Limits) (told : Option (List ℕ)) (h : Header) (past : List Event) (left : Option (List ℕ)) (f : Follower)
+    → length past ≤ limits.events → IsAtEnd left → StandsAt limits.lines told h past left → Follows limits.lines f h past → HasFollowed limits told f
+followed_at_end limits told h past left f few end s follows = record {
   header = h;
   past = past;
   follows = follows;
-  unbroken = no_stop h past s.fine;
-  reads = ends told h past left Whole (λ rest. rest ≡ []) s (at_end left end) (λ rest none. ((rw length-reverse few), none));
+  unbroken = no_stop limits.lines h past s.fine;
+  reads = ends limits told h past left Whole (λ rest. rest ≡ []) s (at_end left end) (λ rest none. ((rw length-reverse few), none));
 }
 
 -- the next event ends the check so
-stopped : (told : Option (List ℕ)) (h : Header) (past : List Event) (event : Event) (left left' : Option (List ℕ)) (stop : Stop) → length past < most_events
-    → IsReadable h.version event → Consumes left left' (line_text (event_text h.version event)) → first_stop h (reverse past ++ event ∷ []) ≡ Some stop
-    → StandsAt told h past left → IfSome told (λ bytes. BeginsStopped bytes stop)
-stopped None h past event left left' stop room readable taken is s = tt
-stopped (Some bytes) h past event left left' stop room readable taken is s =
+stopped : (limits : Limits) (told : Option (List ℕ)) (h : Header) (past : List Event) (event : Event) (left left' : Option (List ℕ)) (stop : Stop)
+    → length past < limits.events → IsReadable h.version event → Consumes left left' (line_text (event_text h.version event))
+    → first_stop_within limits.lines h (reverse past ++ event ∷ []) ≡ Some stop
+    → StandsAt limits.lines told h past left → IfSome told (λ bytes. BeginsStopped limits bytes stop)
+stopped limits None h past event left left' stop room readable taken is s = tt
+stopped limits (Some bytes) h past event left left' stop room readable taken is s =
     let parts = split bytes _ left' (λ rest. Unit {0}) (Consumes-trans (Some bytes) left left' _ _ s.text taken) (told left') in (
       h,
       reverse past ++ event ∷ [],
@@ -86,53 +88,57 @@ stopped (Some bytes) h past event left left' stop room readable taken is s =
     told None = tt
     told (Some rest) = tt
 
--- its verdict is the verdict of the bytes
-pub stop_verdict : (told : Option (List ℕ)) (h : Header) (past : List Event) (event : Event) (left left' : Option (List ℕ)) (verdict : Verdict)
-    → length past < most_events
-    → IsReadable h.version event → Consumes left left' (line_text (event_text h.version event)) → StopsAt h past event verdict → StandsAt told h past left
-    → IfSome told (λ bytes. IsVerdict bytes verdict)
-stop_verdict told h past event left left' (Refused index rule) room readable taken stops s =
-    stopped told h past event left left' (Breaks index rule) room readable taken
-    (next_breaks h past event rule s.fine stops.1 ∙ ap (λ n. Some (Breaks n rule)) (sym stops.0)) s
-stop_verdict told h past event left left' LimitLines room readable taken stops s =
-    stopped told h past event left left' GoesOver room readable taken (next_goes_over h past event s.fine stops.0 stops.1) s
-stop_verdict None h past event left left' NoMemory room readable taken stops s = tt
-stop_verdict (Some bytes) h past event left left' NoMemory room readable taken stops s = tt
-stop_verdict told h past event left left' verdict room readable taken stops s = absurd stops
+-- its verdict is that of the bytes
+pub stop_verdict : (limits : Limits) (told : Option (List ℕ)) (h : Header) (past : List Event) (event : Event) (left left' : Option (List ℕ)) (verdict : Verdict)
+    → length past < limits.events
+    → IsReadable h.version event → Consumes left left' (line_text (event_text h.version event)) → StopsAt limits.lines h past event verdict
+    → StandsAt limits.lines told h past left
+    → IfSome told (λ bytes. IsVerdictWithin limits bytes verdict)
+stop_verdict limits told h past event left left' (Refused index rule) room readable taken stops s =
+    stopped limits told h past event left left' (Breaks index rule) room readable taken
+    (next_breaks limits.lines h past event rule s.fine stops.1 ∙ ap (λ n. Some (Breaks n rule)) (sym stops.0)) s
+stop_verdict limits told h past event left left' LimitLines room readable taken stops s =
+    stopped limits told h past event left left' GoesOver room readable taken (next_goes_over limits.lines h past event s.fine stops.0 stops.1) s
+stop_verdict limits None h past event left left' NoMemory room readable taken stops s = tt
+stop_verdict limits (Some bytes) h past event left left' NoMemory room readable taken stops s = tt
+stop_verdict limits told h past event left left' verdict room readable taken stops s = absurd stops
 
 -- the same where nothing ends the check before the bytes end so
-unbroken : (told : Option (List ℕ)) (h : Header) (past : List Event) (ending : Ending) → IsFine h past → IfSome told (λ bytes. Reads bytes h (reverse past) ending)
-    → IfSome told (λ bytes. (count : ℕ) × ReadsUnbroken bytes count ending)
-unbroken None h past ending f reads = tt
-unbroken (Some bytes) h past ending f reads = (length past, (h, reverse past, reads, no_stop h past f, length-reverse past))
+unbroken : (limits : Limits) (told : Option (List ℕ)) (h : Header) (past : List Event) (ending : Ending) → IsFine limits.lines h past
+    → IfSome told (λ bytes. ReadsWithin limits.events bytes h (reverse past) ending)
+    → IfSome told (λ bytes. (count : ℕ) × ReadsUnbroken limits bytes count ending)
+unbroken limits None h past ending f reads = tt
+unbroken limits (Some bytes) h past ending f reads = (length past, (h, reverse past, reads, no_stop limits.lines h past f, length-reverse past))
 
--- where the trace isn't read on, the verdict is the verdict of the bytes
-pub error_verdict : (told : Option (List ℕ)) (h : Header) (past : List Event) (version count : ℕ) (old new left : Option (List ℕ)) (e : ReadErr)
+-- where the trace isn't read on, the verdict is that of the bytes
+pub error_verdict : (limits : Limits) (told : Option (List ℕ)) (h : Header) (past : List Event) (version count : ℕ) (old new left : Option (List ℕ)) (e : ReadErr)
     → count ≡ length past
-    → version ≡ h.version → StandsNext version (Err e) count old new left → StandsAt told h past old → IfSome told (λ bytes. IsVerdict bytes (refusal_of e))
-error_verdict None h past version count old new left (error.Malformed line reason) same read next s = tt
-error_verdict (Some bytes) h past version count old new left (error.Malformed line reason) same read next s =
-    inr (unbroken (Some bytes) h past (Bad line reason) s.fine
-    (ends (Some bytes) h past old (Bad line reason) (λ rest. HasBadLine h.version rest reason) s (rw read at next.2)
+    → version ≡ h.version → StandsNextWithin limits.events version (Err e) count old new left → StandsAt limits.lines told h past old
+    → IfSome told (λ bytes. IsVerdictWithin limits bytes (refusal_of e))
+error_verdict limits None h past version count old new left (error.Malformed line reason) same read next s = tt
+error_verdict limits (Some bytes) h past version count old new left (error.Malformed line reason) same read next s =
+    inr (unbroken limits (Some bytes) h past (Bad line reason) s.fine
+    (ends limits (Some bytes) h past old (Bad line reason) (λ rest. HasBadLine h.version rest reason) s (rw read at next.2)
     (λ rest bad. ((rw (length-reverse, sym same) next.0), (rw (length-reverse, sym same) next.1), bad))))
-error_verdict told h past version count old new left error.TooManyEvents same read next s =
-    unbroken told h past Full s.fine (ends told h past old Full (λ rest. rest ≢ []) s next.1 (λ rest some. ((rw (length-reverse, sym same) next.0), some)))
-error_verdict None h past version count old new left error.ReadFault same read next s = tt
-error_verdict (Some bytes) h past version count old new left error.ReadFault same read next s = tt
-error_verdict told h past version count old new left error.NoMemory same read next s = absurd next
+error_verdict limits told h past version count old new left error.TooManyEvents same read next s =
+    unbroken limits told h past Full s.fine (ends limits told h past old Full (λ rest. rest ≢ []) s next.1 (λ rest some. ((rw (length-reverse, sym same) next.0), some)))
+error_verdict limits None h past version count old new left error.ReadFault same read next s = tt
+error_verdict limits (Some bytes) h past version count old new left error.ReadFault same read next s = tt
+error_verdict limits told h past version count old new left error.NoMemory same read next s = absurd next
 
 -- a follower stands at the start
-pub comes_at_start : (f : Follower) (count : ℕ) (h : Header) (start : Option (List ℕ)) → count ≡ 0 → Follows f h [] → HasCome f count h start start
-comes_at_start f count h start none follows = ([], follows, none, λ told s. s)
+pub comes_at_start : (limits : Limits) (f : Follower) (count : ℕ) (h : Header) (start : Option (List ℕ)) → count ≡ 0 → Follows limits.lines f h []
+    → HasCome limits f count h start start
+comes_at_start limits f count h start none follows = ([], follows, none, λ told s. s)
 
 -- it has come to the end of the bytes, where the reading ends there
-pub comes_to_end : (told : Option (List ℕ)) (f : Follower) (count : ℕ) (h : Header) (start left left' left'' : Option (List ℕ))
-    (end : Result ⊤ Verdict) → count ≤ most_events
-    → OnOk end (IsAtEnd left × LeavesNothing left left' × LeavesNothing left left'') → HasCome f count h start left → StandsAt told h [] start
-    → OnOk end (HasFollowed told f)
-comes_to_end told f count h start left left' left'' (Ok done) few ended (past, follows, same, stands) s =
-    followed_at_end told h past left f (subst (λ n. n ≤ most_events) same few) ended.0 (stands told s) follows
-comes_to_end told f count h start left left' left'' (Err verdict) few ended come s = tt
+pub comes_to_end : (limits : Limits) (told : Option (List ℕ)) (f : Follower) (count : ℕ) (h : Header) (start left left' left'' : Option (List ℕ))
+    (end : Result ⊤ Verdict) → count ≤ limits.events
+    → OnOk end (IsAtEnd left × LeavesNothing left left' × LeavesNothing left left'') → HasCome limits f count h start left → StandsAt limits.lines told h [] start
+    → OnOk end (HasFollowed limits told f)
+comes_to_end limits told f count h start left left' left'' (Ok done) few ended (past, follows, same, stands) s =
+    followed_at_end limits told h past left f (subst (λ n. n ≤ limits.events) same few) ended.0 (stands told s) follows
+comes_to_end limits told f count h start left left' left'' (Err verdict) few ended come s = tt
 
 -- nothing is left, also of bytes from whose front some were taken
 pub leaves_nothing_before : (old mid left : Option (List ℕ)) (taken : List ℕ) → Consumes old mid taken → LeavesNothing mid left → LeavesNothing old left

@@ -7,16 +7,17 @@ use Rattle.ace_event.specs.declared.event.Event.TheVariants.{Ar, R, Rk, Aw, W, B
 use Rattle.ace_event.specs.declared.header.Header.{Header}
 use Rattle.ace_event.specs.Range.{InRange, FitsFields}
 use Rattle.ace_grammar.proofs.General.Visible.{all-append}
-use Rattle.ace_grammar.specs.Reading.{Reads, Whole, IsReadable}
+use Rattle.ace_grammar.specs.Reading.{ReadsWithin, Whole, IsReadable}
 use Rattle.ace_model.proofs.Barriers.Law.{accepted_barriers_order}
 use Rattle.ace_model.proofs.Coherence.{accepted_coherent}
 use Rattle.ace_model.proofs.Dvm.Law.{accepted_dvm_holds}
 use Rattle.ace_model.proofs.Exclusives.Law.{accepted_exclusive_holds}
 use Rattle.ace_verdict.specs.declared.follow.Follower.{Follower}
+use Rattle.ace_verdict.specs.declared.limits.Limits.{Limits}
 use Rattle.ace_verdict.specs.declared.verdict.Verdict.{Verdict}
 use Rattle.ace_verdict.specs.declared.verdict.Verdict.TheVariants.{Accepted}
 use Rattle.ace_verdict.specs.Follow.{HasFollowed}
-use Rattle.ace_verdict.specs.Verdict.{IsVerdict, ReadsSound, first_stop}
+use Rattle.ace_verdict.specs.Verdict.{IsVerdictWithin, ReadsSoundWithin, first_stop_within}
 use Rattle.ace_verdict.proofs.Stops.{no_stop_accepted}
 
 -- what is read fits its fields
@@ -45,9 +46,10 @@ all_in_fields version (e ∷ events) (one, all) =
     subst (AllByRecursion FitsFields) (sym (reverse-append (e ∷ []) events))
     (all-append FitsFields (reverse events) (e ∷ []) (all_in_fields version events all) (in_fields version e one, tt))
 
-pub whole_sound : (bytes : List ℕ) (h : Header) (events : List Event) → Reads bytes h events Whole → first_stop h events ≡ None → ReadsSound bytes
-whole_sound bytes h events reads none =
-    let accepted = no_stop_accepted h events none in (
+pub whole_sound : (limits : Limits) (bytes : List ℕ) (h : Header) (events : List Event) → ReadsWithin limits.events bytes h events Whole
+    → first_stop_within limits.lines h events ≡ None → ReadsSoundWithin limits.events bytes
+whole_sound limits bytes h events reads none =
+    let accepted = no_stop_accepted limits.lines h events none in (
       h,
       events,
       reads,
@@ -59,11 +61,12 @@ whole_sound bytes h events reads none =
       },
     )
 
-pub verdict_sound : (bytes : List ℕ) (events : ℕ) → IsVerdict bytes (Accepted events) → ReadsSound bytes
-verdict_sound bytes events (header, trace, reads, unbroken, count) = whole_sound bytes header trace reads unbroken
+pub verdict_sound : (limits : Limits) (bytes : List ℕ) (events : ℕ) → IsVerdictWithin limits bytes (Accepted events) → ReadsSoundWithin limits.events bytes
+verdict_sound limits bytes events (header, trace, reads, unbroken, count) = whole_sound limits bytes header trace reads unbroken
 
 -- and of the trace that was followed
-pub followed_sound : (told : Option (List ℕ)) (followed : Result Follower Verdict) → IfOk followed (HasFollowed told) → OnOk followed (IfSome told ReadsSound)
-followed_sound None (Ok f) w = tt
-followed_sound (Some bytes) (Ok f) w = whole_sound bytes w.header (reverse w.past) w.reads w.unbroken
-followed_sound told (Err verdict) w = tt
+pub followed_sound : (limits : Limits) (told : Option (List ℕ)) (followed : Result Follower Verdict) → IfOk followed (HasFollowed limits told)
+    → OnOk followed (IfSome told (ReadsSoundWithin limits.events))
+followed_sound limits None (Ok f) w = tt
+followed_sound limits (Some bytes) (Ok f) w = whole_sound limits bytes w.header (reverse w.past) w.reads w.unbroken
+followed_sound limits told (Err verdict) w = tt

@@ -1,4 +1,5 @@
 pub mod Errors
 pub mod Follow
+pub mod Limits
 pub mod Progress
 pub mod Verdict

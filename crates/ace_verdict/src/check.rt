@@ -1,15 +1,17 @@
 // Follows the text of a trace, event by event, as it is read, to its verdict.
 ghost use Rattle.std.specs.Prelude.{◌≡◌, ◌≤◌, ℕ, List, [], Option, None, false, IfSome, IfOk, IfErr, OnOk};
 ghost use Rattle.ace_grammar.specs.Errors.{LeavesNothing, TakesFront};
-ghost use Rattle.ace_grammar.specs.Reader.{source_of, unread, header_of, count_of, last_answer, lasting, given};
-ghost use Rattle.ace_grammar.specs.Reading.{most_events};
+ghost use Rattle.ace_grammar.specs.Reader.{source_of, unread, header_of, most_of, count_of, last_answer, lasting, given};
+ghost use Rattle.ace_grammar.specs.Reading.{most_counted};
 ghost use Rattle.ace_verdict.specs.Errors.{ends_so};
-ghost use Rattle.ace_verdict.specs.Follow.{Follows, HasComeTo, HasFollowed, asked_of};
+ghost use Rattle.ace_verdict.specs.Follow.{HasComeTo, HasFollowed, IsReady, asked_of};
+ghost use Rattle.ace_verdict.specs.Limits.{CanFollow, trace_limits};
 ghost use Rattle.ace_verdict.specs.Progress.{HasReadCause, IsRefusal, IsStop, StandsAt};
-ghost use Rattle.ace_verdict.specs.Verdict.{IsVerdict, ReadsSound};
+ghost use Rattle.ace_verdict.specs.Verdict.{IsVerdict, IsVerdictWithin, ReadsSound, ReadsSoundWithin};
 ghost use Rattle.ace_verdict.specs.declared.verdict.Verdict.TheVariants.{Accepted};
 
 use crate::follow::{Follower, events_of};
+use crate::limits::Limits;
 use crate::verdict::{Verdict, refusal_of};
 use ace_account::Account;
 use ace_event::Event;
@@ -17,19 +19,36 @@ use ace_grammar::{NO_EVENT, Reader};
 use ace_io::Source;
 use std::alloc::Global;
 
-/// The verdict on the trace that the input gives.
-#[tactic(auto, using(crate::proofs::Followed::followed))]
+/// The verdict on the trace that the input gives, which has at most 1,048,576 events and names at
+/// most 4,096 lines.
 pub fn verdict_on<S: Source>(alloc: Global, input: &mut S) -> Verdict
-    // Where the input tells its bytes, it is the verdict on them. Of an accepted trace none are left, and it has all that
-    // acceptance promises: it is coherent, its exclusive stores are exclusive, its barriers order, and its Syncs wait for all.
+    // Where the input tells its bytes, it is the verdict on them. Of an accepted trace none are
+    // left, and it has all that acceptance promises: it is coherent, its exclusive stores are
+    // exclusive, its barriers order, and its Syncs wait for all.
     ensures verdict { IfSome (S.left input.old) (λ bytes. IsVerdict bytes result) }
-    ensures whole { (events : ℕ) → result ≡ Accepted events → LeavesNothing (S.left input.old) (S.left input.new) }
-    ensures sound { (events : ℕ) → result ≡ Accepted events → IfSome (S.left input.old) ReadsSound }
+    ensures whole { (events : ℕ) → result ≡ Accepted events
+        → LeavesNothing (S.left input.old) (S.left input.new) }
+    ensures sound { (events : ℕ) → result ≡ Accepted events
+        → IfSome (S.left input.old) ReadsSound }
 
     // It is a read fault exactly where the input failed.
     ensures cause { HasReadCause (S.faults input.old) (S.faults input.new) result }
 {
-    match follow_trace(alloc, input, None) {
+    verdict_within(alloc, input, Limits::of_a_trace())
+}
+
+/// The same, of a trace that may have so much.
+#[tactic(auto, using(crate::proofs::Followed::followed))]
+pub fn verdict_within<S: Source>(alloc: Global, input: &mut S, limits: Limits) -> Verdict
+    requires counted { limits.events ≤ most_counted }
+    ensures verdict { IfSome (S.left input.old) (λ bytes. IsVerdictWithin limits bytes result) }
+    ensures whole { (events : ℕ) → result ≡ Accepted events
+        → LeavesNothing (S.left input.old) (S.left input.new) }
+    ensures sound { (events : ℕ) → result ≡ Accepted events
+        → IfSome (S.left input.old) (ReadsSoundWithin limits.events) }
+    ensures cause { HasReadCause (S.faults input.old) (S.faults input.new) result }
+{
+    match follow_within(alloc, input, None, limits) {
         Ok(follower) => Verdict::Accepted {
             events: events_of(follower),
         },
@@ -37,16 +56,17 @@ pub fn verdict_on<S: Source>(alloc: Global, input: &mut S) -> Verdict
     }
 }
 
-/// Follows the trace that the input gives, for an account of it if one is asked for: what followed it to its end, where it is accepted,
-/// or else the verdict.
-#[tactic(auto, using(crate::proofs::ProgressLemmas::progress, crate::proofs::ErrorLemmas::errors))]
+/// Follows the trace that the input gives, which has at most 1,048,576 events and names at most
+/// 4,096 lines, for an account of it if one is asked for: what followed it to its end, where it is
+/// accepted, or else the verdict.
 pub fn follow_trace<S: Source>(
     alloc: Global,
     input: &mut S,
     account: Option<Account>,
 ) -> Result<Follower, Verdict>
-    ensures accepted { IfOk result (HasFollowed (S.left input.old)) }
-    ensures verdict { IfErr result (λ verdict. IfSome (S.left input.old) (λ bytes. IsVerdict bytes verdict)) }
+    ensures accepted { IfOk result (HasFollowed trace_limits (S.left input.old)) }
+    ensures verdict { IfErr result (λ verdict.
+        IfSome (S.left input.old) (λ bytes. IsVerdict bytes verdict)) }
     ensures refusal { IfErr result IsRefusal }
     ensures account { IfOk result (λ f. asked_of f ≡ account) }
     ensures whole { OnOk result (LeavesNothing (S.left input.old) (S.left input.new)) }
@@ -54,8 +74,30 @@ pub fn follow_trace<S: Source>(
     ensures steady { OnOk result (S.faults input.new ≡ S.faults input.old) }
     ensures cause { IfErr result (HasReadCause (S.faults input.old) (S.faults input.new)) }
 {
-    match Reader::start(alloc, input) {
-        Ok(mut reader) => match Follower::new(alloc, reader.header(), account) {
+    follow_within(alloc, input, account, Limits::of_a_trace())
+}
+
+/// The same, of a trace that may have so much.
+#[tactic(auto, using(crate::proofs::ProgressLemmas::progress, crate::proofs::ErrorLemmas::errors))]
+fn follow_within<S: Source>(
+    alloc: Global,
+    input: &mut S,
+    account: Option<Account>,
+    limits: Limits,
+) -> Result<Follower, Verdict>
+    requires can { CanFollow account limits }
+    ensures accepted { IfOk result (HasFollowed limits (S.left input.old)) }
+    ensures verdict { IfErr result (λ verdict.
+        IfSome (S.left input.old) (λ bytes. IsVerdictWithin limits bytes verdict)) }
+    ensures refusal { IfErr result IsRefusal }
+    ensures account { IfOk result (λ f. asked_of f ≡ account) }
+    ensures whole { OnOk result (LeavesNothing (S.left input.old) (S.left input.new)) }
+    ensures sound { OnOk result (IfSome (S.left input.old) (ReadsSoundWithin limits.events)) }
+    ensures steady { OnOk result (S.faults input.new ≡ S.faults input.old) }
+    ensures cause { IfErr result (HasReadCause (S.faults input.old) (S.faults input.new)) }
+{
+    match Reader::start_within(alloc, input, limits.events) {
+        Ok(mut reader) => match Follower::new(alloc, reader.header(), account, limits.lines) {
             Some(follower) => follow(follower, &mut reader),
             None => Err(Verdict::NoMemory),
         },
@@ -69,11 +111,11 @@ fn follow<S: Source>(mut follower: Follower, reader: &mut Reader<S>) -> Result<F
     requires fresh { count_of reader.old ≡ 0 }
     ensures same_source { (source_of reader.new).ghost_name ≡ (source_of reader.old).ghost_name }
     ensures same_account { IfOk result (λ f. asked_of f ≡ asked_of follower) }
-    ensures accepted { (told : Option (List ℕ)) → Follows follower (header_of reader.old) []
-        → StandsAt told (header_of reader.old) [] (unread S.left reader.old) → IfOk result (HasFollowed told) }
-    ensures verdict { (told : Option (List ℕ)) → Follows follower (header_of reader.old) []
-        → StandsAt told (header_of reader.old) [] (unread S.left reader.old)
-        → IfErr result (λ verdict. IfSome told (λ bytes. IsVerdict bytes verdict)) }
+    ensures accepted { (limits : Limits) (told : Option (List ℕ)) → IsReady limits follower reader.old
+        → StandsAt limits.lines told (header_of reader.old) [] (unread S.left reader.old) → IfOk result (HasFollowed limits told) }
+    ensures verdict { (limits : Limits) (told : Option (List ℕ)) → IsReady limits follower reader.old
+        → StandsAt limits.lines told (header_of reader.old) [] (unread S.left reader.old)
+        → IfErr result (λ verdict. IfSome told (λ bytes. IsVerdictWithin limits bytes verdict)) }
     ensures refusal { IfErr result IsRefusal }
     ensures end { OnOk result (LeavesNothing (unread S.left reader.old) (S.left (source_of reader.new).now)) }
     ensures steady { OnOk result (S.faults (source_of reader.new).now ≡ S.faults (source_of reader.old).now) }
@@ -92,11 +134,11 @@ fn check_events<S: Source>(follower: &mut Follower, reader: &mut Reader<S>) -> R
     requires fresh { count_of reader.old ≡ 0 }
     ensures same_source { (source_of reader.new).ghost_name ≡ (source_of reader.old).ghost_name }
     ensures same_account { asked_of follower.new ≡ asked_of follower.old }
-    ensures accepted { (told : Option (List ℕ)) → Follows follower.old (header_of reader.old) []
-        → StandsAt told (header_of reader.old) [] (unread S.left reader.old) → OnOk result (HasFollowed told follower.new) }
-    ensures verdict { (told : Option (List ℕ)) → Follows follower.old (header_of reader.old) []
-        → StandsAt told (header_of reader.old) [] (unread S.left reader.old)
-        → IfErr result (λ verdict. IfSome told (λ bytes. IsVerdict bytes verdict)) }
+    ensures accepted { (limits : Limits) (told : Option (List ℕ)) → IsReady limits follower.old reader.old
+        → StandsAt limits.lines told (header_of reader.old) [] (unread S.left reader.old) → OnOk result (HasFollowed limits told follower.new) }
+    ensures verdict { (limits : Limits) (told : Option (List ℕ)) → IsReady limits follower.old reader.old
+        → StandsAt limits.lines told (header_of reader.old) [] (unread S.left reader.old)
+        → IfErr result (λ verdict. IfSome told (λ bytes. IsVerdictWithin limits bytes verdict)) }
     ensures refusal { IfErr result IsRefusal }
     ensures end { OnOk result (LeavesNothing (unread S.left reader.old) (S.left (source_of reader.new).now)) }
     ensures steady { OnOk result (S.faults (source_of reader.new).now ≡ S.faults (source_of reader.old).now) }
@@ -120,16 +162,18 @@ fn follow_at_once<S: Source>(follower: &mut Follower, reader: &mut Reader<S>)
     ensures same_source { (source_of reader.new).ghost_name ≡ (source_of reader.old).ghost_name }
     ensures source { (source_of reader.new).now ≡ (source_of reader.old).now }
     ensures same_header { header_of reader.new ≡ header_of reader.old }
+    ensures same_most { most_of reader.new ≡ most_of reader.old }
     ensures same_account { asked_of follower.new ≡ asked_of follower.old }
     ensures same_answer { last_answer reader.new ≡ last_answer reader.old }
     ensures further { count_of reader.old ≤ count_of reader.new }
-    ensures few { count_of reader.old ≤ most_events → count_of reader.new ≤ most_events }
+    ensures few { count_of reader.new ≤ most_of reader.new }
     ensures front { TakesFront (unread S.left reader.old) (unread S.left reader.new) }
     ensures stop { IfSome follower.old.stop IsStop → IfSome follower.new.stop IsStop }
-    ensures comes { (start : Option (List ℕ)) → count_of reader.old ≤ most_events
-        → HasComeTo follower.old.stop follower.old (count_of reader.old) (header_of reader.old)
+    ensures comes { (limits : Limits) (start : Option (List ℕ)) → CanFollow (asked_of follower.old) limits
+        → most_of reader.old ≡ limits.events
+        → HasComeTo limits follower.old.stop follower.old (count_of reader.old) (header_of reader.old)
         start (unread S.left reader.old)
-        → HasComeTo follower.new.stop follower.new (count_of reader.new) (header_of reader.old)
+        → HasComeTo limits follower.new.stop follower.new (count_of reader.new) (header_of reader.old)
         start (unread S.left reader.new) }
 {
     reader.hands_all_over(follower);

@@ -6,7 +6,7 @@ ghost use Rattle.ace_model.specs.declared.breaks.Break.{Break};
 ghost use Rattle.ace_model.specs.Trace.{Trace};
 ghost use Rattle.ace_model.specs.Accepted.{IsAccepted, least_broken};
 ghost use Rattle.ace_model.specs.Copies.{memory_of};
-ghost use Rattle.ace_check.specs.Promises.{goes_over};
+ghost use Rattle.ace_check.specs.Promises.{goes_over_within};
 ghost use Rattle.ace_check.specs.Run as check;
 ghost use Rattle.ace_account.specs.Accounts.{HasPut, HasPutCause};
 ghost use Rattle.ace_account.specs.Listeners as listening;
@@ -50,11 +50,12 @@ fn stop_of(fed: Result<Step, CheckErr>) -> Option<Verdict>
 /// Checks the next event. A verdict ends the check.
 #[inline(always)]
 fn feed(checker: &mut Checker, event: &Event) -> Option<Verdict>
-    ensures fine { (h : Header) (past : Trace) → check.Stands checker.old h past None
-        → IfNone result ((least_broken h past event.now ≡ None) × (goes_over past event.now ≡ false)) }
-    ensures stands { (h : Header) (past : Trace) → check.Stands checker.old h past None → length past < 2 ^ 64 - 2
-        → IfNone result (check.Stands checker.new h (event.now ∷ past) None) }
-    ensures stops { (h : Header) (past : Trace) → check.Stands checker.old h past None → IfSome result (StopsAt h past event.now) }
+    ensures fine { (lines : ℕ) (h : Header) (past : Trace) → check.StandsWithin lines checker.old h past None
+        → IfNone result ((least_broken h past event.now ≡ None) × (goes_over_within lines past event.now ≡ false)) }
+    ensures stands { (lines : ℕ) (h : Header) (past : Trace) → check.StandsWithin lines checker.old h past None
+        → length past < 2 ^ 64 - 2 → IfNone result (check.StandsWithin lines checker.new h (event.now ∷ past) None) }
+    ensures stops { (lines : ℕ) (h : Header) (past : Trace) → check.StandsWithin lines checker.old h past None
+        → IfSome result (StopsAt lines h past event.now) }
     ensures stop { IfSome result IsStop }
 {
     fed_verdict(checker.feed(event))
@@ -63,8 +64,8 @@ fn feed(checker: &mut Checker, event: &Event) -> Option<Verdict>
 /// Memory of the line, if there is one.
 #[inline(always)]
 fn memory_at(checker: &Checker, line: Option<u32>) -> Line
-    ensures { (h : Header) (past : Trace) (b : Option Break) (l : ℕ) → check.Stands checker.now h past b → line ≡ Some l
-        → result ≡ memory_of past l }
+    ensures { (lines : ℕ) (h : Header) (past : Trace) (b : Option Break) (l : ℕ) → check.StandsWithin lines checker.now h past b
+        → line ≡ Some l → result ≡ memory_of past l }
 {
     match line {
         Some(line) => checker.memory(line),
@@ -75,7 +76,7 @@ fn memory_at(checker: &Checker, line: Option<u32>) -> Line
 /// Lets the next event be heard, if an account is asked for. The checker is that before it.
 #[inline(always)]
 fn hear(checker: &Checker, listener: &mut Option<Listener>, event: &Event) -> Result<(), NoMemory>
-    ensures heard { (h : Header) (past : Trace) → check.Stands checker.now h past None
+    ensures heard { (lines : ℕ) (h : Header) (past : Trace) → check.StandsWithin lines checker.now h past None
         → IfSome listener.old (λ l. listening.Stands l h past) → IsAccepted h (event.now ∷ past)
         → length past < most_events
         → OnOk result (IfSome listener.new (λ l. listening.Stands l h (event.now ∷ past))) }
@@ -101,13 +102,19 @@ pub struct Follower {
 }
 
 impl Follower {
-    /// The follower of the empty trace under this header, or None where there is no memory.
-    pub fn new(alloc: Global, header: Header, account: Option<Account>) -> Option<Follower>
+    /// The follower of the empty trace under this header, which may name so many lines, or None where
+    /// there is no memory.
+    pub fn new(
+        alloc: Global,
+        header: Header,
+        account: Option<Account>,
+        lines: usize,
+    ) -> Option<Follower>
         requires { IsHeader header }
-        ensures follows { IfSome result (λ f. Follows f header []) }
+        ensures follows { IfSome result (λ f. Follows lines f header []) }
         ensures account { IfSome result (λ f. asked_of f ≡ account) }
     {
-        let checker = match Checker::new(alloc, header) {
+        let checker = match Checker::with_lines(alloc, header, lines) {
             Ok(checker) => checker,
             Err(_) => return None,
         };
@@ -158,7 +165,7 @@ impl Follower {
 
     /// How many events were followed.
     pub fn count(&self) -> u64
-        ensures { (h : Header) (past : Trace) → Follows self.now h past → result ≡ length past }
+        ensures { (lines : ℕ) (h : Header) (past : Trace) → Follows lines self.now h past → result ≡ length past }
     {
         self.checker.count()
     }
@@ -182,14 +189,14 @@ impl Taker for Follower {
 
 /// How many events the follower has followed, of which there is no more use.
 pub fn events_of(follower: Follower) -> u64
-    ensures { (h : Header) (past : Trace) → Follows follower h past → result ≡ length past }
+    ensures { (lines : ℕ) (h : Header) (past : Trace) → Follows lines follower h past → result ≡ length past }
 {
     follower.count()
 }
 
 /// Puts the account that was asked for, of a follower of which there is no more use.
 pub fn put_account<K: Sink>(follower: Follower, sink: &mut K) -> Result<(), AccountErr>
-    ensures put { (h : Header) (past : Trace) → Follows follower h past
+    ensures put { (lines : ℕ) (h : Header) (past : Trace) → Follows lines follower h past
         → IfSome (asked_of follower)
         (λ account. HasPut account h past (K.held sink.old) (K.held sink.new) result) }
     ensures cause { HasPutCause (K.faults sink.old) (K.faults sink.new) result }

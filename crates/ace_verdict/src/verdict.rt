@@ -9,7 +9,8 @@ use ace_grammar::{ReadErr, Reason};
 pub enum Verdict {
     /// The trace was read to its end, and none of its events breaks a rule.
     Accepted { events: u64 },
-    /// This event, counted from 1, is the first that breaks a rule, and this is the least rule that it breaks.
+    /// This event, counted from 1, is the first that breaks a rule, and this is the least rule that
+    /// it breaks.
     Refused { index: u64, rule: u8 },
     /// This line, counted from 1, is the first that is outside the grammar, for this reason.
     Malformed { line: u64, reason: Reason },

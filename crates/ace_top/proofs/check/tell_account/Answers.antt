@@ -7,7 +7,7 @@ use Rattle.ace_top.proofs.check.tell_account.Goals as goal
 pub returns-in-Ok-put_account-clause-carried_out : goal.returns-in-Ok-put_account-clause-carried_out
 returns-in-Ok-put_account-clause-carried_out g c =
     let w = c.in-Ok.ensures.accepted in
-    let put = rw c.in-Ok.ensures.account at c.in-Ok-put_account.ensures.put w.header w.past w.follows in
+    let put = rw c.in-Ok.ensures.account at c.in-Ok-put_account.ensures.put _ w.header w.past w.follows in
     record {
       answer = λ ne.
           account_answers c.args.account _ (g.S.Source.left c.follow_trace.new.input) _ w put.0 _ _ _ _ _ _ put.1 (c.conclude.ensures.status ne) put.2 (c.conclude.ensures.out_given ne) (c.conclude.ensures.notes_given ne);
@@ -21,7 +21,7 @@ returns-in-Err-NoMemory-clause-carried_out g c =
     let error = c.in-Err-NoMemory.field-0-is in
     let put =
     subst (λ (e : AccountErr). HasPut c.args.account w.header w.past (g.K.Sink.held c.args.out.now) (g.K.Sink.held c.put_account.new.sink) (Err e)) error
-    (rw c.in-Ok.ensures.account at c.in-Err-NoMemory.ensures.put w.header w.past w.follows)
+    (rw c.in-Ok.ensures.account at c.in-Err-NoMemory.ensures.put _ w.header w.past w.follows)
     in
     record {
       answer = λ ne.
@@ -36,7 +36,7 @@ returns-in-Err-Failed-clause-carried_out g c =
     let error = c.in-Err-Failed.field-0-is in
     let put =
     subst (λ (e : AccountErr). HasPut c.args.account w.header w.past (g.K.Sink.held c.args.out.now) (g.K.Sink.held c.put_account.new.sink) (Err e)) error
-    (rw c.in-Ok.ensures.account at c.in-Err-Failed.ensures.put w.header w.past w.follows)
+    (rw c.in-Ok.ensures.account at c.in-Err-Failed.ensures.put _ w.header w.past w.follows)
     in
     record {
       answer = λ ne. absurd (ne c.break_off.ensures.status);

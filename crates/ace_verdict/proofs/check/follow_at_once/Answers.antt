@@ -8,5 +8,5 @@ pub returns-clause-stop : goal.returns-clause-stop
 returns-clause-stop g c was = all_stops _ _ _ _ _ _ c.hands_all_over.ensures.taken was
 
 pub returns-clause-comes : goal.returns-clause-comes
-returns-clause-comes g c start most come =
-    let handed = c.hands_all_over.ensures in all_come _ _ _ _ _ start _ _ handed.further (rw (handed.same_most, most) at handed.few) handed.taken come
+returns-clause-comes g c limits start can most come =
+    let handed = c.hands_all_over.ensures in all_come limits _ _ _ _ _ start _ _ can handed.further (rw (handed.same_most, most) at handed.few) handed.taken come

@@ -1,0 +1,4 @@
+use Rattle.ace_verdict.proofs.check.verdict_on.Goals as goal
+
+pub returns-clause-verdict : goal.returns-clause-verdict
+returns-clause-verdict g c = rw c.of_a_trace.ensures at c.verdict_within.ensures.verdict
