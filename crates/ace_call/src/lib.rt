@@ -1,0 +1,8 @@
+//! What the calls of the programs share: numbers among their words, and texts that are given to an output whole or in part.
+#![tactic(auto)]
+
+mod give;
+mod number;
+
+pub use give::{break_off, give_text};
+pub use number::number_of;
