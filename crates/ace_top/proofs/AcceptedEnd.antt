@@ -1,76 +1,105 @@
 -- What the verdict and its status say.
-use Rattle.std.proofs.Common.{◌≡◌, ◌≢◌, ℕ, List, Option, None, Some, IfSome, refl, inl, codes, arith}
+use Rattle.std.proofs.Common.{◌≡◌, ◌≢◌, ℕ, List, Option, None, Some, IfSome, refl, ap, subst, ◌∙◌, inl, codes, arith}
 use Rattle.std.specs.Io.KnownBytes.{Appends}
 use Rattle.ace_grammar.specs.Errors.{LeavesNothing}
+use Rattle.ace_verdict.specs.declared.verdict.Verdict.{Verdict}
+use Rattle.ace_verdict.specs.declared.verdict.Verdict.TheVariants.{Accepted, Refused, Malformed, ReadFault, LimitEvents, LimitLines, NoMemory}
+use Rattle.ace_verdict.specs.Progress as verdicts
+use Rattle.ace_verdict.specs.Verdict.{IsVerdict, ReadsSound}
 use Rattle.ace_top.specs.declared.answer.Answer.{Answer}
-use Rattle.ace_top.specs.declared.answer.Answer.TheVariants.{Accepted, Refused, Shown, Reported, Generated, Ran, Tried, Usage, Malformed, ReadFault, LimitEvents, LimitLines, NoMemory}
 use Rattle.ace_top.specs.declared.words.Command.TheVariants.{Check}
-use Rattle.ace_top.specs.Answer.{Answers, BreaksOff}
+use Rattle.ace_top.specs.Answer.{Answers, BreaksOff, IsAnswer}
 use Rattle.ace_convert.specs.Output.{AppendsPart}
 use Rattle.ace_top.specs.Output.{AppendsParts}
-use Rattle.ace_top.specs.Progress.{EndsInput, IsRefusal, IsVerdictAnswer}
+use Rattle.ace_top.specs.Cause.{HasReadCause}
+use Rattle.ace_top.specs.Results.{verdict_answer}
 use Rattle.ace_top.specs.Texts.{status_of, out_text_of, notes_text_of}
-use Rattle.ace_top.specs.Verdict.{IsVerdict, ReadsSound}
-use Rattle.ace_top.proofs.Sound.{whole_sound}
 
--- a trace that isn't accepted has another status, which isn't that of the usage
-pub refusal_status : (answer : Answer) → IsRefusal answer → (status_of answer ≢ 0) × (status_of answer ≢ 2)
-refusal_status (Refused index rule) r = (λ s. absurd (omega (arith, s)), λ s. absurd (omega (arith, s)))
-refusal_status (Malformed line reason) r = (λ s. absurd (omega (arith, s)), λ s. absurd (omega (arith, s)))
-refusal_status ReadFault r = (λ s. absurd (omega (arith, s)), λ s. absurd (omega (arith, s)))
-refusal_status LimitEvents r = (λ s. absurd (omega (arith, s)), λ s. absurd (omega (arith, s)))
-refusal_status LimitLines r = (λ s. absurd (omega (arith, s)), λ s. absurd (omega (arith, s)))
-refusal_status NoMemory r = (λ s. absurd (omega (arith, s)), λ s. absurd (omega (arith, s)))
-refusal_status answer r = absurd r
+-- a trace that isn't accepted has another status
+pub refusal_status : (verdict : Verdict) → verdicts.IsRefusal verdict → status_of (verdict_answer verdict) ≢ 0
+refusal_status (Accepted events) r s = absurd r
+refusal_status (Refused index rule) r s = absurd (omega (arith, s))
+refusal_status (Malformed line reason) r s = absurd (omega (arith, s))
+refusal_status ReadFault r s = absurd (omega (arith, s))
+refusal_status LimitEvents r s = absurd (omega (arith, s))
+refusal_status LimitLines r s = absurd (omega (arith, s))
+refusal_status NoMemory r s = absurd (omega (arith, s))
 
--- of the answers that `check` gives it is the status of an accepted trace alone, which was read to the end
-pub zero_end : (answer : Answer) (old left : Option (List ℕ)) → status_of answer ≡ 0 → EndsInput answer old left → LeavesNothing old left
-zero_end (Accepted events) old left s e = e
-zero_end Shown old left s e = e
-zero_end Reported old left s e = e
-zero_end Generated old left s e = absurd e
-zero_end Ran old left s e = absurd e
-zero_end (Tried number events) old left s e = absurd e
-zero_end answer old left s e = absurd (omega (arith, s))
+-- it is that of an accepted trace alone, which was read to the end
+pub zero_whole : (verdict : Verdict) (old left : Option (List ℕ)) → ((events : ℕ) → verdict ≡ Accepted events → LeavesNothing old left)
+    → status_of (verdict_answer verdict) ≡ 0 → LeavesNothing old left
+zero_whole (Accepted events) old left whole s = whole events refl
+zero_whole (Refused index rule) old left whole s = absurd (omega (arith, s))
+zero_whole (Malformed line reason) old left whole s = absurd (omega (arith, s))
+zero_whole ReadFault old left whole s = absurd (omega (arith, s))
+zero_whole LimitEvents old left whole s = absurd (omega (arith, s))
+zero_whole LimitLines old left whole s = absurd (omega (arith, s))
+zero_whole NoMemory old left whole s = absurd (omega (arith, s))
 
-verdict-sound : (bytes : List ℕ) (answer : Answer) → status_of answer ≡ 0 → IsVerdict bytes answer → ReadsSound bytes
-verdict-sound bytes (Accepted events) s (header, trace, reads, unbroken, count) = whole_sound bytes header trace reads unbroken
-verdict-sound bytes Shown s v = absurd v
-verdict-sound bytes Reported s v = absurd v
-verdict-sound bytes Generated s v = absurd v
-verdict-sound bytes Usage s v = absurd v
-verdict-sound bytes Ran s v = absurd v
-verdict-sound bytes (Tried number events) s v = absurd v
-verdict-sound bytes answer s v = absurd (omega (arith, s))
+-- and has all that acceptance promises
+pub zero_sound : (verdict : Verdict) (told : Option (List ℕ)) → ((events : ℕ) → verdict ≡ Accepted events → IfSome told ReadsSound)
+    → status_of (verdict_answer verdict) ≡ 0 → IfSome told ReadsSound
+zero_sound (Accepted events) told sound s = sound events refl
+zero_sound (Refused index rule) told sound s = absurd (omega (arith, s))
+zero_sound (Malformed line reason) told sound s = absurd (omega (arith, s))
+zero_sound ReadFault told sound s = absurd (omega (arith, s))
+zero_sound LimitEvents told sound s = absurd (omega (arith, s))
+zero_sound LimitLines told sound s = absurd (omega (arith, s))
+zero_sound NoMemory told sound s = absurd (omega (arith, s))
 
--- the trace that was read has all that acceptance promises
-pub zero_sound : (told : Option (List ℕ)) (answer : Answer) → status_of answer ≡ 0 → IfSome told (λ bytes. IsVerdict bytes answer) → IfSome told ReadsSound
-zero_sound None answer s v = tt
-zero_sound (Some bytes) answer s v = verdict-sound bytes answer s v
+-- a verdict doesn't tell the usage
+pub verdict_status : (verdict : Verdict) → status_of (verdict_answer verdict) ≢ 2
+verdict_status (Accepted events) s = absurd (omega (arith, s))
+verdict_status (Refused index rule) s = absurd (omega (arith, s))
+verdict_status (Malformed line reason) s = absurd (omega (arith, s))
+verdict_status ReadFault s = absurd (omega (arith, s))
+verdict_status LimitEvents s = absurd (omega (arith, s))
+verdict_status LimitLines s = absurd (omega (arith, s))
+verdict_status NoMemory s = absurd (omega (arith, s))
 
--- `check` doesn't tell the usage
-pub verdict_status : (answer : Answer) → IsVerdictAnswer answer → status_of answer ≢ 2
-verdict_status (Accepted events) a s = absurd (omega (arith, s))
-verdict_status (Refused index rule) a s = absurd (omega (arith, s))
-verdict_status (Malformed line reason) a s = absurd (omega (arith, s))
-verdict_status ReadFault a s = absurd (omega (arith, s))
-verdict_status LimitEvents a s = absurd (omega (arith, s))
-verdict_status LimitLines a s = absurd (omega (arith, s))
-verdict_status NoMemory a s = absurd (omega (arith, s))
-verdict_status answer a s = absurd a
+-- a read fault is answered where the input failed
+pub verdict_cause : (before now : ℕ) (verdict : Verdict) → verdicts.HasReadCause before now verdict → HasReadCause before now (verdict_answer verdict)
+verdict_cause before now (Accepted events) c = record { failed = λ is. absurd cc; steady = λ not. c.steady (λ is. absurd cc) }
+verdict_cause before now (Refused index rule) c = record { failed = λ is. absurd cc; steady = λ not. c.steady (λ is. absurd cc) }
+verdict_cause before now (Malformed line reason) c = record { failed = λ is. absurd cc; steady = λ not. c.steady (λ is. absurd cc) }
+verdict_cause before now ReadFault c = record { failed = λ is. c.failed refl; steady = λ not. absurd (not refl) }
+verdict_cause before now LimitEvents c = record { failed = λ is. absurd cc; steady = λ not. c.steady (λ is. absurd cc) }
+verdict_cause before now LimitLines c = record { failed = λ is. absurd cc; steady = λ not. c.steady (λ is. absurd cc) }
+verdict_cause before now NoMemory c = record { failed = λ is. absurd cc; steady = λ not. c.steady (λ is. absurd cc) }
+
+checked_so : (told left : Option (List ℕ)) (verdict : Verdict) (text : List ℕ) → IfSome told (λ bytes. IsVerdict bytes verdict)
+    → IsAnswer Check told left (verdict_answer verdict) text
+checked_so None left verdict text v = tt
+checked_so (Some bytes) left verdict text v = (verdict, refl, v)
 
 -- a verdict that was told
-pub check_answers : (told left : Option (List ℕ)) (answer : Answer) (status : ℕ) (out out' notes notes' : Option (List ℕ))
-    → IfSome told (λ bytes. IsVerdict bytes answer) → status ≡ status_of answer → Appends out out' (out_text_of answer) → Appends notes notes' (notes_text_of answer)
+pub check_answers : (told left : Option (List ℕ)) (verdict : Verdict) (answer : Answer) (status : ℕ) (out out' notes notes' : Option (List ℕ))
+    → answer ≡ verdict_answer verdict → IfSome told (λ bytes. IsVerdict bytes verdict) → status ≡ status_of answer
+    → Appends out out' (out_text_of answer) → Appends notes notes' (notes_text_of answer)
     → Answers Check told left status out out' notes notes'
-check_answers None left answer status out out' notes notes' v s given noted = (answer, out_text_of answer, refl, tt, s, given, noted)
-check_answers (Some bytes) left answer status out out' notes notes' v s given noted = (answer, out_text_of answer, refl, v, s, given, noted)
+check_answers told left verdict answer status out out' notes notes' is v same given noted = (
+  verdict_answer verdict,
+  out_text_of (verdict_answer verdict),
+  refl,
+  checked_so told left verdict _ v,
+  same ∙ ap status_of is,
+  subst (λ (a : Answer). Appends out out' (out_text_of a)) is given,
+  subst (λ (a : Answer). Appends notes notes' (notes_text_of a)) is noted,
+)
 
 -- a verdict that an output broke off
-pub check_breaks_off : (told left : Option (List ℕ)) (answer : Answer) (out out' notes notes' : Option (List ℕ))
-    → IfSome told (λ bytes. IsVerdict bytes answer) → AppendsPart out out' (out_text_of answer) → AppendsParts notes notes' (notes_text_of answer) (codes "write fault\n")
+pub check_breaks_off : (told left : Option (List ℕ)) (verdict : Verdict) (answer : Answer) (out out' notes notes' : Option (List ℕ))
+    → answer ≡ verdict_answer verdict → IfSome told (λ bytes. IsVerdict bytes verdict)
+    → AppendsPart out out' (out_text_of answer) → AppendsParts notes notes' (notes_text_of answer) (codes "write fault\n")
     → BreaksOff Check told left out out' notes notes'
-check_breaks_off None left answer out out' notes notes' v part parts = inl (answer, out_text_of answer, refl, tt, part, parts)
-check_breaks_off (Some bytes) left answer out out' notes notes' v part parts = inl (answer, out_text_of answer, refl, v, part, parts)
+check_breaks_off told left verdict answer out out' notes notes' is v part parts =
+    inl (
+      verdict_answer verdict,
+      out_text_of (verdict_answer verdict),
+      refl,
+      checked_so told left verdict _ v,
+      subst (λ (a : Answer). AppendsPart out out' (out_text_of a)) is part,
+      subst (λ (a : Answer). AppendsParts notes notes' (notes_text_of a) (codes "write fault\n")) is parts,
+    )
 
-pub ruleset accepted_end = (zero_end, zero_sound, verdict_status, refusal_status)
+pub ruleset accepted_end = (zero_whole, zero_sound, verdict_status, refusal_status, verdict_cause)

@@ -13,7 +13,7 @@ use Rattle.ace_top.specs.declared.answer.Answer.TheVariants.{ReadFault, NoMemory
 use Rattle.ace_top.specs.declared.words.Command.{Command}
 use Rattle.ace_top.specs.declared.words.Command.TheVariants.{Check, Account, Convert, Run, Gen, Trial}
 use Rattle.ace_top.specs.Answer.{IsAnswer, FitsAnswer, IsDue, IsSettled}
-use Rattle.ace_top.specs.ErrorAnswer.{end_answer}
+use Rattle.ace_top.specs.Results.{end_answer}
 use Rattle.ace_top.specs.Texts.{status_of}
 use Rattle.ace_top.specs.Written.{IsWritten}
 use Rattle.ace_top.proofs.OneAnswer.{one_answer, written_due}

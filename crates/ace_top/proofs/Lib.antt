@@ -1,12 +1,8 @@
 pub mod AcceptedEnd
 pub mod AccountLemmas
-pub mod ErrorLemmas
-pub mod Followed
-pub mod Following
 pub mod FrontGiven
 pub mod GenerateLemmas
 pub mod GeneratedRight
-pub mod Handed
 pub mod Hyphens
 pub mod KeptRuns
 pub mod Numbers
@@ -15,11 +11,7 @@ pub mod OneAnswer
 pub mod OneRun
 pub mod ParseLemmas
 pub mod Parts
-pub mod ProgressLemmas
-pub mod ReaderEnds
 pub mod RunLemmas
 pub mod RunTexts
-pub mod Sound
-pub mod Stops
 pub mod WordsAnswered
 pub mod WrittenLemmas

@@ -17,10 +17,10 @@ use Rattle.ace_top.specs.declared.answer.Answer.TheVariants.{NoMemory, Ran, Trie
 use Rattle.ace_top.specs.declared.words.Command.TheVariants.{Run, Trial}
 use Rattle.ace_top.specs.declared.words.Snooping.{Snooping}
 use Rattle.ace_top.specs.Answer.{Answers, BreaksOff, FitsAnswer}
-use Rattle.ace_top.specs.ErrorAnswer.{plan_answer}
+use Rattle.ace_top.specs.Cause.{HasReadCause}
+use Rattle.ace_top.specs.Results.{plan_answer}
 use Rattle.ace_convert.specs.Output.{AppendsPart}
 use Rattle.ace_top.specs.Output.{AppendsParts}
-use Rattle.ace_top.specs.Progress.{HasReadCause}
 use Rattle.ace_top.specs.Run.{IsRan, SnoopsBy}
 use Rattle.ace_top.specs.Texts.{status_of, out_text_of, notes_text_of}
 use Rattle.ace_top.proofs.Parts.{both_nothing}

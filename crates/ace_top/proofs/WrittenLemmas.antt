@@ -13,9 +13,9 @@ use Rattle.ace_convert.specs.Output.{AppendsPart}
 use Rattle.ace_top.specs.declared.answer.Answer.{Answer}
 use Rattle.ace_top.specs.declared.words.Command.TheVariants.{Convert}
 use Rattle.ace_top.specs.Answer.{IsAnswer, Answers, FitsAnswer, BreaksOff}
-use Rattle.ace_top.specs.ErrorAnswer.{end_answer}
+use Rattle.ace_top.specs.Cause.{HasReadCause}
+use Rattle.ace_top.specs.Results.{end_answer}
 use Rattle.ace_top.specs.Output.{AppendsParts}
-use Rattle.ace_top.specs.Progress.{HasReadCause}
 use Rattle.ace_top.specs.Texts.{status_of, out_text_of, notes_text_of}
 use Rattle.ace_top.proofs.Parts.{both_nothing}
 

@@ -16,19 +16,19 @@ use Rattle.ace_top.specs.declared.answer.Answer.{Answer}
 use Rattle.ace_top.specs.declared.answer.Answer.TheVariants.{Accepted, NoMemory, Ran, ReadFault, Reported, Usage}
 use Rattle.ace_top.specs.declared.words.Command.{Command}
 use Rattle.ace_top.specs.declared.words.Command.TheVariants.{Check, Account, Convert, Run, Gen, Trial}
+use Rattle.ace_top.specs.Checked.{IsChecked}
 use Rattle.ace_top.specs.Command.{Names}
 use Rattle.ace_top.specs.Generate.{IsGenerated}
 use Rattle.ace_top.specs.Output.{AppendsParts}
 use Rattle.ace_top.specs.Texts.{status_of, out_text_of, notes_text_of}
 use Rattle.ace_top.specs.Report.{AreAccepted, IsReported}
 use Rattle.ace_top.specs.Run.{IsRan, IsTried, WritesSomeRun}
-use Rattle.ace_top.specs.Verdict.{IsVerdict}
 use Rattle.ace_top.specs.Words.{IsCommand}
 use Rattle.ace_top.specs.Written.{IsWritten}
 
 -- what a command answers to this input, of which this is left, with this text on the standard output
 abbrev pub IsAnswer : Command → Option (List ℕ) → Option (List ℕ) → Answer → List ℕ → Type 0
-IsAnswer Check input left answer text = IfSome input (λ bytes. IsVerdict bytes answer)
+IsAnswer Check input left answer text = IfSome input (λ bytes. IsChecked bytes answer)
 IsAnswer (Account account) input left answer text =
     IfSome input (λ bytes. IsReported account bytes answer text)
 IsAnswer (Convert conversion) input left answer text =

@@ -1,14 +1,13 @@
 pub mod Answer
+pub mod Cause
+pub mod Checked
 pub mod Command
-pub mod ErrorAnswer
-pub mod Follow
 pub mod Generate
 pub mod Output
 pub mod Parse
-pub mod Progress
 pub mod Report
+pub mod Results
 pub mod Run
 pub mod Texts
-pub mod Verdict
 pub mod Words
 pub mod Written

@@ -4,7 +4,7 @@ use Rattle.ace_convert.specs.declared.conversion.Conversion.{Conversion}
 use Rattle.ace_convert.specs.declared.end.TraceEnd.{TraceEnd}
 use Rattle.ace_convert.specs.Converted.{IsConverted}
 use Rattle.ace_top.specs.declared.answer.Answer.{Answer}
-use Rattle.ace_top.specs.ErrorAnswer.{end_answer}
+use Rattle.ace_top.specs.Results.{end_answer}
 
 -- The answer to these bytes, of which these are left, in this conversion, and the text that is written: as the reading of the
 -- bytes ends. Want of memory may take its place, and then nothing is written.

@@ -1,17 +1,18 @@
 // The answers of the program: their statuses and texts.
 ghost use Rattle.std.specs.Prelude.{◌≡◌, ◌≢◌, ◌≤◌, ◌++◌, codes, decimal, length};
-ghost use Rattle.ace_top.specs.ErrorAnswer.{end_answer, error_answer, plan_answer};
+ghost use Rattle.ace_top.specs.Results.{end_answer, plan_answer, verdict_answer};
 ghost use Rattle.ace_top.specs.Texts.{status_of, out_text_of, notes_text_of};
 
 use ace_bin::BinReason;
 use ace_convert::TraceEnd;
-use ace_grammar::{ReadErr, Reason};
+use ace_grammar::Reason;
 use ace_script::PlanErr;
+use ace_verdict::Verdict;
 use arrayvec::ArrayString;
 use itoa::Buffer;
 
 /// What a call of the program answers, unless an output fails.
-#[derive(Clone, Copy, Debug, PartialEq, Eq)]
+#[derive(Clone, Copy)]
 pub enum Answer {
     /// The trace was read to its end, and none of its events breaks a rule.
     Accepted {
@@ -64,15 +65,18 @@ pub enum Answer {
     NoMemory,
 }
 
-/// The answer where a trace could not be read on.
-pub fn error_answer(error: ReadErr) -> Answer
-    ensures { result ≡ error_answer error }
+/// The answer to a verdict.
+pub fn verdict_answer(verdict: Verdict) -> Answer
+    ensures { result ≡ verdict_answer verdict }
 {
-    match error {
-        ReadErr::Malformed { line, reason } => Answer::Malformed { line, reason },
-        ReadErr::TooManyEvents => Answer::LimitEvents,
-        ReadErr::ReadFault => Answer::ReadFault,
-        ReadErr::NoMemory => Answer::NoMemory,
+    match verdict {
+        Verdict::Accepted { events } => Answer::Accepted { events },
+        Verdict::Refused { index, rule } => Answer::Refused { index, rule },
+        Verdict::Malformed { line, reason } => Answer::Malformed { line, reason },
+        Verdict::ReadFault => Answer::ReadFault,
+        Verdict::LimitEvents => Answer::LimitEvents,
+        Verdict::LimitLines => Answer::LimitLines,
+        Verdict::NoMemory => Answer::NoMemory,
     }
 }
 

@@ -3,7 +3,6 @@
 
 mod answer;
 mod check;
-mod follow;
 mod generate;
 pub mod laws;
 mod output;

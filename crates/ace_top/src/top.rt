@@ -3,7 +3,7 @@ ghost use Rattle.std.specs.Prelude.{◌≡◌, ◌≢◌, ◌<◌, ◌≤◌, �
 ghost use Rattle.std.specs.Io.KnownBytes.{Appends, IsAtEnd};
 ghost use Rattle.ace_io.specs.Faults.{Rose};
 ghost use Rattle.ace_grammar.specs.Errors.{LeavesNothing};
-ghost use Rattle.ace_top.specs.Verdict.{ReadsSound};
+ghost use Rattle.ace_verdict.specs.Verdict.{ReadsSound};
 ghost use Rattle.ace_top.specs.Words.{IsCheck, IsSomeRun, IsSomeAccount, IsTraceCommand, IsReadingCommand, IsCommand};
 ghost use Rattle.ace_top.specs.Answer.{AnswersWords, BreaksOffWords};
 ghost use Rattle.ace_top.specs.Output.{AppendsParts};

@@ -1,0 +1,9 @@
+pub mod ErrorLemmas
+pub mod Followed
+pub mod Following
+pub mod Handed
+pub mod OneVerdict
+pub mod ProgressLemmas
+pub mod ReaderEnds
+pub mod Sound
+pub mod Stops

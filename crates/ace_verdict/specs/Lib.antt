@@ -1,0 +1,4 @@
+pub mod Errors
+pub mod Follow
+pub mod Progress
+pub mod Verdict
