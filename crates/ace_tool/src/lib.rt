@@ -1,0 +1,7 @@
+//! The top call of `acetool`: all that the program does, over any sources, sinks and files.
+#![tactic(auto)]
+
+mod check_call;
+mod check_words;
+mod options;
+mod request;
