@@ -3,6 +3,8 @@
 
 mod give;
 mod number;
+mod pieces;
 
 pub use give::{break_off, give_text};
 pub use number::number_of;
+pub use pieces::give_pieces;
