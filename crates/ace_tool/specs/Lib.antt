@@ -1,4 +1,6 @@
 pub mod Asked
 pub mod Options
+pub mod Packing
+pub mod Reports
 pub mod Requests
 pub mod Told

@@ -3,5 +3,8 @@
 
 mod check_call;
 mod check_words;
+mod folder;
 mod options;
+mod packing;
+mod report;
 mod request;
