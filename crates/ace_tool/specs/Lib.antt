@@ -3,4 +3,5 @@ pub mod Options
 pub mod Packing
 pub mod Reports
 pub mod Requests
+pub mod Seen
 pub mod Told

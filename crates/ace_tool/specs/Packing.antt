@@ -16,8 +16,8 @@ packing_of bytes =
     else if bytes_eq (take 4 bytes) (magic_of Zstd) then Some Zstd
     else if bytes_eq (take 3 bytes) (magic_of Xz) then Some Xz else None
 
--- the words for what unpacks it
-abbrev pub tool_of : Packing → List ℕ
-tool_of Gzip = codes "gzip -dc"
-tool_of Zstd = codes "zstd -dc"
-tool_of Xz = codes "xz -dc"
+-- what is said before its name
+abbrev pub advice_of : Packing → List ℕ
+advice_of Gzip = codes "compressed; use: gzip -dc "
+advice_of Zstd = codes "compressed; use: zstd -dc "
+advice_of Xz = codes "compressed; use: xz -dc "

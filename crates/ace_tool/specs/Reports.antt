@@ -5,7 +5,7 @@ use Rattle.ace_grammar.specs.Reasons.{number_of_reason}
 use Rattle.ace_verdict.specs.declared.verdict.Verdict.{Verdict}
 use Rattle.ace_verdict.specs.declared.verdict.Verdict.TheVariants.{Accepted, Refused, Malformed, ReadFault, LimitEvents, LimitLines, NoMemory}
 use Rattle.ace_tool.specs.Asked.{is_input}
-use Rattle.ace_tool.specs.Packing.{tool_of}
+use Rattle.ace_tool.specs.Packing.{advice_of}
 use Rattle.ace_tool.specs.declared.folder.OpenErr.{OpenErr}
 use Rattle.ace_tool.specs.declared.folder.OpenErr.TheVariants.{NotThere, NotAllowed, Failed}
 use Rattle.ace_tool.specs.declared.report.Report.{Report}
@@ -58,7 +58,7 @@ abbrev pub report_text : List ℕ → Report → List ℕ
 report_text name (Told verdict) = verdict_text verdict
 report_text name (Shut error) = open_text error
 report_text name (Compressed packing) =
-    codes "compressed; use: " ++ tool_of packing ++ codes " " ++ name ++ codes " | acetool check -"
+    advice_of packing ++ name ++ codes " | acetool check -"
 
 -- the line of a trace: that of standard input has no name
 abbrev pub line_of : List ℕ → Report → List ℕ

@@ -4,7 +4,9 @@
 mod check_call;
 mod check_words;
 mod folder;
+mod line;
 mod options;
 mod packing;
 mod report;
 mod request;
+mod seen;

@@ -1,6 +1,8 @@
 // Files that are compressed, by their first bytes.
-ghost use Rattle.std.specs.Prelude.{◌≡◌, take};
-ghost use Rattle.ace_tool.specs.Packing.{packing_of, tool_of};
+ghost use Rattle.std.specs.Prelude.{◌≡◌};
+ghost use Rattle.ace_tool.specs.Packing.{advice_of, packing_of};
+
+use arrayvec::ArrayString;
 
 /// How a file is compressed.
 #[derive(Clone, Copy)]
@@ -22,13 +24,15 @@ pub(crate) fn packing_of(front: &[u8]) -> Option<Packing>
     }
 }
 
-/// The words for what unpacks such a file.
-pub(crate) fn tool_of(packing: Packing) -> &'static str
-    ensures { result.now ≡ tool_of packing }
+/// What is said of such a file before its name.
+pub(crate) fn advice_of(packing: Packing) -> ArrayString<64>
+    ensures { result.bytes ≡ advice_of packing }
 {
+    let mut text = ArrayString::new();
     match packing {
-        Packing::Gzip => "gzip -dc",
-        Packing::Zstd => "zstd -dc",
-        Packing::Xz => "xz -dc",
+        Packing::Gzip => text.push_str("compressed; use: gzip -dc "),
+        Packing::Zstd => text.push_str("compressed; use: zstd -dc "),
+        Packing::Xz => text.push_str("compressed; use: xz -dc "),
     }
+    text
 }

@@ -3,7 +3,7 @@ ghost use Rattle.std.specs.Prelude.{◌≡◌, ◌≢◌};
 ghost use Rattle.ace_tool.specs.Reports.{open_text, status_of, status_of_verdict, verdict_text};
 
 use crate::folder::OpenErr;
-use crate::packing::{Packing, tool_of};
+use crate::packing::Packing;
 use ace_verdict::Verdict;
 use arrayvec::ArrayString;
 use itoa::Buffer;
@@ -44,7 +44,7 @@ pub(crate) fn status_of(report: Report) -> u8
 }
 
 /// The text of a verdict, as `ace check` says it.
-fn verdict_text(verdict: Verdict) -> ArrayString<64>
+pub(crate) fn verdict_text(verdict: Verdict) -> ArrayString<64>
     ensures { result.bytes ≡ verdict_text verdict }
 {
     let mut text = ArrayString::new();
@@ -75,12 +75,14 @@ fn verdict_text(verdict: Verdict) -> ArrayString<64>
 }
 
 /// Why a file could not be opened, in words.
-fn open_text(error: OpenErr) -> &'static str
-    ensures { result.now ≡ open_text error }
+pub(crate) fn open_text(error: OpenErr) -> ArrayString<64>
+    ensures { result.bytes ≡ open_text error }
 {
+    let mut text = ArrayString::new();
     match error {
-        OpenErr::NotThere => "No such file or directory",
-        OpenErr::NotAllowed => "Permission denied",
-        OpenErr::Failed => "cannot be opened",
+        OpenErr::NotThere => text.push_str("No such file or directory"),
+        OpenErr::NotAllowed => text.push_str("Permission denied"),
+        OpenErr::Failed => text.push_str("cannot be opened"),
     }
+    text
 }
