@@ -1,7 +1,10 @@
 pub mod Asked
+pub mod Checked
 pub mod Options
+pub mod Outcome
 pub mod Packing
 pub mod Reports
 pub mod Requests
 pub mod Seen
+pub mod Texts
 pub mod Told

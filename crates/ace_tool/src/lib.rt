@@ -1,6 +1,7 @@
 //! The top call of `acetool`: all that the program does, over any sources, sinks and files.
 #![tactic(auto)]
 
+mod check;
 mod check_call;
 mod check_words;
 mod folder;
@@ -10,3 +11,4 @@ mod packing;
 mod report;
 mod request;
 mod seen;
+mod texts;
