@@ -124,3 +124,8 @@ all_words words word rest is = ap (map string_bytes) is
 pub ruleset only = (is_only_word, is_no_only_word)
 
 pub ruleset requests = (only_word, no_lone_wish, no_long_wish, no_empty_wish, no_check_wish, all_words)
+
+-- words that ask for no check ask for another thing
+pub no_check_asked : (words : List (List ℕ)) (wish : Wish) → Asks words wish → ((check : CheckAsked) → ¬ Asks words (Check check))
+    → (check : CheckAsked) → wish ≢ Check check
+no_check_asked words wish asks none check is = none check (subst (Asks words) is asks)

@@ -4,6 +4,7 @@
 mod check;
 mod check_call;
 mod check_words;
+mod conclude;
 mod folder;
 mod line;
 mod options;
@@ -12,3 +13,7 @@ mod report;
 mod request;
 mod seen;
 mod texts;
+mod top;
+
+pub use folder::{Folder, OpenErr};
+pub use top::acetool;
