@@ -81,7 +81,7 @@ check_answers told left verdict answer status out out' notes notes' is v same gi
   verdict_answer verdict,
   out_text_of (verdict_answer verdict),
   refl,
-  checked_so told left verdict _ v,
+  checked_so told left verdict (out_text_of (verdict_answer verdict)) v,
   same ∙ ap status_of is,
   subst (λ (a : Answer). Appends out out' (out_text_of a)) is given,
   subst (λ (a : Answer). Appends notes notes' (notes_text_of a)) is noted,
@@ -97,7 +97,7 @@ check_breaks_off told left verdict answer out out' notes notes' is v part parts 
       verdict_answer verdict,
       out_text_of (verdict_answer verdict),
       refl,
-      checked_so told left verdict _ v,
+      checked_so told left verdict (out_text_of (verdict_answer verdict)) v,
       subst (λ (a : Answer). AppendsPart out out' (out_text_of a)) is part,
       subst (λ (a : Answer). AppendsParts notes notes' (notes_text_of a) (codes "write fault\n")) is parts,
     )

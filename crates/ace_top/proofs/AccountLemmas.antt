@@ -1,11 +1,10 @@
 -- What `report` and `order` answer.
-use Rattle.std.proofs.Common.{◌≡◌, ℕ, List, [], Option, None, Some, IfSome, reverse, refl, sym, subst, ap, inl, codes, ◌++◌, ◌∙◌, append-nil}
+use Rattle.std.proofs.Common.{◌≡◌, ℕ, List, [], Option, None, Some, IfSome, reverse, refl, sym, subst, ap, inl, codes, ◌∙◌, append-nil}
 use Rattle.std.proofs.lemmas.List.{reverse-reverse}
 use Rattle.std.specs.Io.KnownBytes.{Appends}
 use Rattle.std.proofs.KnownBytes.{Appends-nil}
 use Rattle.ace_account.specs.Accounts.{IsAccount}
 use Rattle.ace_account.specs.declared.listener.Account.{Account}
-use Rattle.ace_event.specs.declared.header.Header.{Header}
 use Rattle.ace_model.specs.Trace.{Trace}
 use Rattle.ace_verdict.specs.declared.follow.Follower.{Follower}
 use Rattle.ace_verdict.specs.declared.verdict.Verdict.{Verdict}

@@ -1,12 +1,7 @@
 -- The answer that is due to bytes is that which their one reading has.
-use Rattle.std.proofs.Common.{◌≡◌, ◌≤◌, ℕ, List, [], ◌∷◌, ◌++◌, Option, None, Some, length, reverse, refl, sym, ap, subst, ◌∙◌, inl, inr, Bool, true, false, ◌+◌, arith}
-use Rattle.ace_event.specs.declared.header.Header.{Header}
-use Rattle.ace_event.specs.declared.event.Event.{Event}
-use Rattle.ace_grammar.specs.declared.reason.Reason.{Reason}
-use Rattle.ace_grammar.specs.Reading.{Ending, Ends, Whole, Full, Bad, Reads, HasBadHeader, most_events}
-use Rattle.ace_grammar.proofs.Readings.EveryReading.{some_reading}
-use Rattle.ace_grammar.proofs.Readings.Fronts.{front_is_read, front_is_good}
-use Rattle.ace_grammar.proofs.Readings.OneReading.{one_reading, no_bad_header, one_bad_header}
+use Rattle.std.proofs.Common.{◌≡◌, ℕ, List, [], Option, Some, length, reverse, refl, sym, ap, subst, ◌∙◌}
+use Rattle.ace_grammar.specs.Reading.{Whole}
+use Rattle.ace_grammar.proofs.Readings.OneReading.{one_reading}
 use Rattle.ace_account.proofs.SomeAccount.{some_account}
 use Rattle.ace_account.specs.declared.listener.Account.{Account}
 use Rattle.ace_account.specs.declared.listener.Account.TheVariants as accounts
@@ -33,7 +28,7 @@ use Rattle.ace_top.specs.declared.words.Command.TheVariants.{Check, Convert, Run
 use Rattle.ace_top.specs.declared.words.Command.TheVariants as command
 use Rattle.ace_top.specs.Answer.{CanBeInput, IsAnswer, FitsAnswer, IsDue, IsSettled}
 use Rattle.ace_top.specs.Generate.{IsGenerated, script_of}
-use Rattle.ace_top.specs.Report.{AreAccepted, IsReported}
+use Rattle.ace_top.specs.Report.{IsReported}
 use Rattle.ace_top.specs.Texts.{out_text_of}
 use Rattle.ace_top.proofs.OneScript.{one_unread, some_ran, some_tried}
 

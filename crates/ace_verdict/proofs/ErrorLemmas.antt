@@ -2,7 +2,7 @@
 use Rattle.std.proofs.Common.{◌≡◌, ℕ, List, Option, None, Some, IfSome, Err, refl, subst, inl}
 use Rattle.ace_grammar.specs.declared.error.ReadErr.{ReadErr}
 use Rattle.ace_grammar.specs.declared.error.ReadErr.TheVariants as error
-use Rattle.ace_grammar.specs.Errors.{HasNoHeader, StandsNext, HasFaultCause}
+use Rattle.ace_grammar.specs.Errors.{HasNoHeader, HasFaultCause}
 use Rattle.ace_verdict.specs.declared.verdict.Verdict.{Verdict}
 use Rattle.ace_verdict.specs.declared.verdict.Verdict.TheVariants.{Refused, LimitLines, NoMemory}
 use Rattle.ace_verdict.specs.Errors.{refusal_of}
