@@ -16,4 +16,4 @@ mod texts;
 mod top;
 
 pub use folder::{Folder, OpenErr};
-pub use top::acetool;
+pub use top::{acetool, tell_no_memory};

@@ -97,3 +97,15 @@ pub fn acetool<F: Folder, I: Source, K: Sink, E: Sink>(
         Err(NoMemory) => note(notes, "out of memory\n", 7),
     }
 }
+
+/// Tells that there was no memory for the words, where `acetool` can't be called for want of them, and returns the status.
+pub fn tell_no_memory<E: Sink>(notes: &mut E) -> u8
+    ensures status { (result ≡ 7) ⊎ (result ≡ 5) }
+    ensures given { result ≡ 7 → Appends (E.held notes.old) (E.held notes.new) (codes "out of memory\n") }
+    ensures part { result ≡ 5
+        → AppendsParts (E.held notes.old) (E.held notes.new) (codes "out of memory\n") (codes "write fault\n") }
+    ensures write_fault { result ≡ 5 → Rose (E.faults notes.old) (E.faults notes.new) }
+    ensures output_failed { E.faults notes.old < E.faults notes.new → result ≡ 5 }
+{
+    note(notes, "out of memory\n", 7)
+}
