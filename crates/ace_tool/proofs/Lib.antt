@@ -1,4 +1,5 @@
 pub mod Checking
 pub mod Lines
+pub mod Peeking
 pub mod Spelling
 pub mod Words

@@ -4,6 +4,7 @@ pub mod Checked
 pub mod Options
 pub mod Outcome
 pub mod Packing
+pub mod Peeked
 pub mod Reports
 pub mod Requests
 pub mod Seen

@@ -9,6 +9,7 @@ mod folder;
 mod line;
 mod options;
 mod packing;
+mod peeked;
 mod report;
 mod request;
 mod seen;
