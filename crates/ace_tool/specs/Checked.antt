@@ -1,7 +1,8 @@
 -- What was told of traces, and whether it is right.
-use Rattle.std.specs.Prelude.{◌≡◌, ⊤, ℕ, Bool, true, false, List, [], ◌∷◌, ◌++◌, Option, IfSome, map}
-use Rattle.ace_verdict.specs.Verdict.{IsVerdict}
+use Rattle.std.specs.Prelude.{◌≡◌, ⊤, ℕ, Bool, true, false, List, [], ◌∷◌, ◌++◌, Option, None, Some, IfSome, map}
+use Rattle.ace_verdict.specs.Verdict.{IsDueVerdict, IsVerdict}
 use Rattle.ace_tool.specs.Asked.{is_input}
+use Rattle.ace_tool.specs.Packing.{packing_of}
 use Rattle.ace_tool.specs.Reports.{line_of, status_of}
 use Rattle.ace_tool.specs.declared.report.Report.{Report}
 use Rattle.ace_tool.specs.declared.report.Report.TheVariants.{Told, Shut, Compressed}
@@ -11,11 +12,12 @@ pub record Checked : Type 0 where
   pub name : List ℕ
   pub report : Report
 
--- This is to be told of these bytes. A fault of the input and want of memory may take its place.
+-- This is to be told of these bytes: how they are compressed, or else the verdict on them. A fault of
+-- the input and want of memory may take the place of both.
 abbrev pub IsRead : List ℕ → Report → Type 0
-IsRead bytes (Told verdict) = IsVerdict bytes verdict
+IsRead bytes (Told verdict) = IsVerdict bytes verdict × (IsDueVerdict verdict → packing_of bytes ≡ None)
 IsRead bytes (Shut error) = ⊥
-IsRead bytes (Compressed packing) = ⊥
+IsRead bytes (Compressed packing) = packing_of bytes ≡ Some packing
 
 -- The same of a file, which can perhaps not be opened.
 abbrev pub IsOpened : Option (List ℕ) → Report → Type 0

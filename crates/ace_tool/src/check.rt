@@ -1,6 +1,10 @@
 // Checks traces, one after another.
 ghost use Rattle.std.specs.Prelude.{◌≡◌, ◌≢◌, ℕ, List, Option, map, IfOk, IfSome, OnErr};
-ghost use Rattle.ace_io.specs.Faults.{HasCause};
+ghost use Rattle.ace_io.specs.Faults.{HasCause, Rose};
+ghost use Rattle.ace_io.specs.Line.{in_front};
+ghost use Rattle.ace_verdict.specs.Verdict.{IsVerdict};
+ghost use Rattle.ace_verdict.specs.declared.verdict.Verdict.TheVariants.{ReadFault};
+ghost use Rattle.ace_tool.specs.declared.report.Report.TheVariants.{Told};
 ghost use Rattle.ace_tool.specs.Asked.{is_input};
 ghost use Rattle.ace_tool.specs.Checked.{IsNextBy, IsOpened, IsRead};
 ghost use Rattle.ace_tool.specs.Outcome.{ChecksAll, ChecksSome};
@@ -8,18 +12,41 @@ ghost use Rattle.ace_tool.specs.Outcome.{ChecksAll, ChecksSome};
 use crate::check_words::is_input;
 use crate::folder::Folder;
 use crate::line::give_line;
+use crate::packing::packing_of;
+use crate::peeked::{FRONT, Peeked, take_front};
 use crate::report::Report;
 use crate::seen::Seen;
 use ace_io::{Failed, Sink, Source};
-use ace_verdict::verdict_on;
+use ace_verdict::{Verdict, verdict_on};
+use arrayvec::ArrayVec;
 use std::alloc::Global;
 
-/// What is to be told of the trace that the source gives.
-fn read_trace<S: Source>(alloc: Global, source: &mut S) -> Report
-    ensures { IfSome (S.left source.old) (λ bytes. IsRead bytes result) }
+/// The verdict on the trace that the source gives, of which these first bytes were taken.
+fn verdict_behind<S: Source>(alloc: Global, source: &mut S, front: ArrayVec<u8, FRONT>) -> Verdict
+    ensures verdict { IfSome (in_front front.items (S.left source.old)) (λ bytes. IsVerdict bytes result) }
+    // Where it is a read fault, the source failed.
+    ensures fault { result ≡ ReadFault → (after : S) × Rose (S.faults source.old) (S.faults after) }
 {
-    Report::Told {
-        verdict: verdict_on(alloc, source),
+    let mut peeked = Peeked::new(source, front);
+    verdict_on(alloc, &mut peeked)
+}
+
+/// What is to be told of the trace that the source gives.
+#[tactic(auto, using(crate::proofs::Reading::reading))]
+fn read_trace<S: Source>(alloc: Global, source: &mut S) -> Report
+    ensures read { IfSome (S.left source.old) (λ bytes. IsRead bytes result) }
+    ensures fault { result ≡ Told ReadFault → (after : S) × Rose (S.faults source.old) (S.faults after) }
+{
+    match take_front(source) {
+        Ok(front) => match packing_of(front.as_slice()) {
+            Some(packing) => Report::Compressed { packing },
+            None => Report::Told {
+                verdict: verdict_behind(alloc, source, front),
+            },
+        },
+        Err(_) => Report::Told {
+            verdict: Verdict::ReadFault,
+        },
     }
 }
 

@@ -7,7 +7,7 @@ use ace_io::{Failed, Source};
 use arrayvec::ArrayVec;
 
 /// How many bytes are looked at.
-const FRONT: usize = 4;
+pub(crate) const FRONT: usize = 4;
 
 /// The next byte of the source, if it has one left.
 fn next_byte<S: Source>(source: &mut S) -> Result<Option<u8>, Failed>
