@@ -51,6 +51,6 @@ abbrev pub BreaksOff : (List ℕ → Option (List ℕ)) → List (List ℕ) → 
     → Option (List ℕ) → Option (List ℕ) → Option (List ℕ) → Option (List ℕ) → Type 0
 BreaksOff holds words input left out out' notes notes' =
     ((wish : Wish) × Asks words wish × DoesPart holds wish input left out out'
-        × AppendsPart notes notes' (codes "write fault\n"))
+    × AppendsPart notes notes' (codes "write fault\n"))
     ⊎ (AsksNothing words × Appends out out' [] × AppendsParts notes notes' (usage_of words) (codes "write fault\n"))
     ⊎ (Appends out out' [] × AppendsParts notes notes' (codes "out of memory\n") (codes "write fault\n"))

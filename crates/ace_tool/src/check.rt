@@ -61,12 +61,7 @@ fn open_trace<F: Folder>(alloc: Global, files: &F, name: &str) -> Report
 }
 
 /// What is to be told of the trace of this name.
-fn check_trace<F: Folder, I: Source>(
-    alloc: Global,
-    files: &F,
-    input: &mut I,
-    name: &str,
-) -> Report
+fn check_trace<F: Folder, I: Source>(alloc: Global, files: &F, input: &mut I, name: &str) -> Report
     ensures { IsNextBy (is_input name.now) (F.holds files.now name.now) (I.left input.old) result (I.left input.new) }
 {
     if is_input(name) {

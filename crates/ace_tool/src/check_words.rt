@@ -175,7 +175,11 @@ impl<'a> CheckWords<'a> {
         ensures { IfOk result (λ call. MatchOption call ((check : CheckAsked) → ¬ IsChecked self.entry check)
             (λ c. IsChecked self.entry (check_of c))) }
     {
-        match (self.awaited, limit_by(self.most_events), limit_by(self.most_lines)) {
+        match (
+            self.awaited,
+            limit_by(self.most_events),
+            limit_by(self.most_lines),
+        ) {
             (None, Some(most_events), Some(most_lines)) => Ok(Some(CheckCall {
                 most_events,
                 most_lines,

@@ -35,10 +35,7 @@ fn is_help(words: &[String]) -> bool
 
 /// What the words behind `check` ask it to do, if they are right.
 #[tactic(auto, using(crate::proofs::Words::checks))]
-fn check_call<'a>(
-    alloc: Global,
-    words: &'a [String],
-) -> Result<Option<CheckCall<'a>>, NoMemory>
+fn check_call<'a>(alloc: Global, words: &'a [String]) -> Result<Option<CheckCall<'a>>, NoMemory>
     ensures { IfOk result (λ call. MatchOption call
         ((check : CheckAsked) → ¬ AsksCheck (map string_bytes words.entry.now) check)
         (λ c. AsksCheck (map string_bytes words.entry.now) (check_of c))) }
@@ -52,10 +49,7 @@ fn check_call<'a>(
 
 /// What the words ask of which `check` is the first, and these are the others.
 #[tactic(auto, using(crate::proofs::Words::requests))]
-fn check_request<'a>(
-    alloc: Global,
-    words: &'a [String],
-) -> Result<Option<Request<'a>>, NoMemory>
+fn check_request<'a>(alloc: Global, words: &'a [String]) -> Result<Option<Request<'a>>, NoMemory>
     ensures { IfOk result (λ request. MatchOption request
         ((wish : Wish) → ¬ Asks (codes "check" ∷ map string_bytes words.entry.now) wish)
         (λ r. Asks (codes "check" ∷ map string_bytes words.entry.now) (wish_of r))) }
@@ -89,10 +83,7 @@ fn lone_request<'a>(word: &str) -> Option<Request<'a>>
 ///
 /// `NoMemory` where there is none for what they ask.
 #[tactic(auto, using(crate::proofs::Words::requests))]
-pub fn request_of<'a>(
-    alloc: Global,
-    words: &'a [String],
-) -> Result<Option<Request<'a>>, NoMemory>
+pub fn request_of<'a>(alloc: Global, words: &'a [String]) -> Result<Option<Request<'a>>, NoMemory>
     ensures { IfOk result (λ request. MatchOption request
         ((wish : Wish) → ¬ Asks (map string_bytes words.entry.now) wish)
         (λ r. Asks (map string_bytes words.entry.now) (wish_of r))) }
