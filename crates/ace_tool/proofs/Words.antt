@@ -1,0 +1,131 @@
+-- Words that are taken one after another, and what they ask.
+use Rattle.std.proofs.Common.{◌≡◌, ◌≢◌, ◌<◌, ◌∷◌, ◌+◌, ℕ, List, [], String, Option, None, Some, codes, length, map, string_bytes, drop, get_or, refl, arith, ◌∙◌, ap, subst, sym, Bool, IsTrue, bytes_eq}
+use Rattle.std.proofs.lemmas.Slice.Eq.{bytes_eq-Decides}
+use Rattle.std.proofs.lemmas.List.{drop_more}
+use Rattle.std.specs.declared.alloc.Global.{Global}
+use Rattle.ace_tool.specs.Asked.{Asked, AsksCheck, CheckAsked, IsChecked, IsLimit, nothing, with_all, with_more}
+use Rattle.ace_tool.specs.Requests.{Asks, Wish, Help, HelpOfCheck, Version, Check}
+use Rattle.ace_tool.specs.declared.options.Limit.{Limit}
+
+-- behind a word that is wrong nothing is asked
+pub all_wrong : (rest : List (List ℕ)) → with_all None rest ≡ None
+all_wrong [] = refl
+all_wrong (word ∷ rest) = all_wrong rest
+
+-- as one that comes next
+pub wrong_at : (words : List (String Global)) (i : ℕ) (d : String Global) (asked : Asked) → i < length words
+    → with_more (string_bytes (get_or words i d)) asked ≡ None → with_all (Some asked) (map string_bytes (drop i words)) ≡ None
+wrong_at words i d asked within wrong =
+    ap (λ rest. with_all (Some asked) (map string_bytes rest)) (drop_more words i d within)
+    ∙ ap (λ a. with_all a (map string_bytes (drop (i + 1) words))) wrong
+    ∙ all_wrong (map string_bytes (drop (i + 1) words))
+
+pub ruleset wrongs = (all_wrong, wrong_at)
+
+-- an option waits for its value
+pub a_value_is_missing : (asked : Asked) (limit : Limit) (check : CheckAsked) → asked.awaited ≡ Some limit → ¬ IsChecked asked check
+a_value_is_missing asked limit check awaits is = let none = is.no_value_is_missing in absurd (cc)
+
+-- the value of an option is no number
+pub no_events : (asked : Asked) (check : CheckAsked) → ((limit : Option ℕ) → ¬ IsLimit asked.most_events limit) → ¬ IsChecked asked check
+no_events asked check wrong is = wrong check.most_events is.most_events
+
+pub no_lines : (asked : Asked) (check : CheckAsked) → ((limit : Option ℕ) → ¬ IsLimit asked.most_lines limit) → ¬ IsChecked asked check
+no_lines asked check wrong is = wrong check.most_lines is.most_lines
+
+pub ruleset finishes = (a_value_is_missing, no_events, no_lines)
+
+-- words that ask nothing ask for no check
+pub no_words : (words : List (List ℕ)) (check : CheckAsked) → with_all (Some nothing) words ≡ None → ¬ AsksCheck words check
+no_words words check wrong (asked, right, is) = absurd (cc)
+
+-- and what is asked is asked by no others
+pub no_check : (words : List (List ℕ)) (asked : Asked) (check : CheckAsked) → with_all (Some nothing) words ≡ Some asked
+    → ((c : CheckAsked) → ¬ IsChecked asked c) → ¬ AsksCheck words check
+no_check words asked check right none_is (other, same, is) =
+    let one : other ≡ asked = cc in
+    none_is check (subst (λ a. IsChecked a check) one is)
+
+pub a_check : (words : List (List ℕ)) (asked : Asked) (check : CheckAsked) → with_all (Some nothing) words ≡ Some asked
+    → IsChecked asked check → AsksCheck words check
+a_check words asked check right is = (asked, right, is)
+
+pub ruleset checks = (no_words, no_check, a_check)
+
+-- a word is the only one
+pub only_word : (words : List (String Global)) (word : String Global) (rest : List (String Global)) → words ≡ word ∷ rest
+    → length rest ≡ 0 → map string_bytes words ≡ string_bytes word ∷ []
+only_word words word [] is none = rw is refl
+only_word words word (next ∷ rest) is none = absurd (omega arith)
+
+-- and it is this text
+pub is_only_word : (words : List (String Global)) (word : String Global) (rest : List (String Global)) (text : List ℕ) (same : Bool)
+    → words ≡ word ∷ rest → length rest ≡ 0 → same ≡ bytes_eq (string_bytes word) text
+    → (IsTrue same → map string_bytes words ≡ text ∷ []) × (map string_bytes words ≡ text ∷ [] → IsTrue same)
+is_only_word words word rest text same is none alike =
+    let one : map string_bytes words ≡ string_bytes word ∷ [] = only_word words word rest is none in
+    let decides = bytes_eq-Decides (string_bytes word) text in
+    (λ t. one ∙ ap (λ w. w ∷ []) (decides.0 (sym alike ∙ t)), λ e. alike ∙ decides.1 (cc))
+
+-- or it is one of more
+pub is_no_only_word : (words : List (String Global)) (word : String Global) (rest : List (String Global)) (text : List ℕ)
+    → words ≡ word ∷ rest → length rest ≢ 0 → map string_bytes words ≢ text ∷ []
+is_no_only_word words word [] text is some e = some refl
+is_no_only_word words word (next ∷ rest) text is some e =
+    let two : map string_bytes words ≡ string_bytes word ∷ string_bytes next ∷ map string_bytes rest = rw is refl in
+    let bad : (string_bytes word ∷ string_bytes next ∷ map string_bytes rest) ≡ text ∷ [] = sym two ∙ e in
+    absurd (cc)
+
+-- one word that asks nothing
+pub no_lone_wish : (word : List ℕ) (wish : Wish) → word ≢ codes "check" → word ≢ codes "--help" → word ≢ codes "--version"
+    → ¬ Asks (word ∷ []) wish
+no_lone_wish word Help other help version asks = help (cc)
+no_lone_wish word HelpOfCheck other help version asks = other (cc)
+no_lone_wish word Version other help version asks = version (cc)
+no_lone_wish word (Check check) other help version (rest, is, asks) = other (cc)
+
+-- the first of them
+first_of : (words : List (String Global)) (word : String Global) (rest : List (String Global)) (text : List ℕ) (texts : List (List ℕ))
+    → words ≡ word ∷ rest → map string_bytes words ≡ text ∷ texts → string_bytes word ≡ text
+first_of words word rest text texts is e =
+    let both : string_bytes word ∷ map string_bytes rest ≡ text ∷ texts = sym (ap (map string_bytes) is) ∙ e in
+    cc
+
+-- words of which the first is none that has others behind it
+pub no_long_wish : (words : List (String Global)) (word : String Global) (rest : List (String Global)) (wish : Wish) → words ≡ word ∷ rest
+    → length rest ≢ 0 → string_bytes word ≢ codes "check" → ¬ Asks (map string_bytes words) wish
+no_long_wish words word rest Help is some other asks = is_no_only_word words word rest _ is some asks
+no_long_wish words word rest HelpOfCheck is some other asks = other (first_of words word rest _ _ is asks)
+no_long_wish words word rest Version is some other asks = is_no_only_word words word rest _ is some asks
+no_long_wish words word rest (Check check) is some other (more, asks, it) = other (first_of words word rest _ _ is asks)
+
+-- no words
+pub no_empty_wish : (wish : Wish) → ¬ Asks [] wish
+no_empty_wish Help asks = absurd (cc)
+no_empty_wish HelpOfCheck asks = absurd (cc)
+no_empty_wish Version asks = absurd (cc)
+no_empty_wish (Check check) (rest, is, asks) = absurd (cc)
+
+-- words behind `check` that ask for no check, and no help
+pub no_check_wish : (words : List (List ℕ)) (wish : Wish) → words ≢ codes "--help" ∷ [] → ((check : CheckAsked) → ¬ AsksCheck words check)
+    → ¬ Asks (codes "check" ∷ words) wish
+no_check_wish words Help help none asks = absurd (cc)
+no_check_wish words HelpOfCheck help none asks = help (cc)
+no_check_wish words Version help none asks = absurd (cc)
+no_check_wish words (Check check) help none (rest, is, asks) =
+    let same : rest ≡ words = cc in
+    none check (subst (λ w. AsksCheck w check) same asks)
+
+-- all words, by the first and the others
+pub all_words : (words : List (String Global)) (word : String Global) (rest : List (String Global)) → words ≡ word ∷ rest
+    → map string_bytes words ≡ string_bytes word ∷ map string_bytes rest
+all_words words word rest is = ap (map string_bytes) is
+
+pub ruleset only = (is_only_word, is_no_only_word)
+
+pub ruleset requests = (only_word, no_lone_wish, no_long_wish, no_empty_wish, no_check_wish, all_words)
+
+-- words that ask for no check ask for another thing
+pub no_check_asked : (words : List (List ℕ)) (wish : Wish) → Asks words wish → ((check : CheckAsked) → ¬ Asks words (Check check))
+    → (check : CheckAsked) → wish ≢ Check check
+no_check_asked words wish asks none check is = none check (subst (Asks words) is asks)

@@ -1,0 +1,9 @@
+use Rattle.std.proofs.Common.{rules, codes, subst, ap, ◌++◌, ◌∙◌, OnErr, OnOk}
+use Rattle.std.specs.Io.KnownBytes.{Appends}
+use Rattle.ace_convert.specs.Output.{AppendsPart}
+use Rattle.ace_tool.proofs.line.give_line.Goals as goal
+
+pub returns-clause-part : goal.returns-clause-part
+returns-clause-part g c =
+    subst (λ text. OnErr c.give_five.result (AppendsPart (g.K.Sink.held c.args.out.now) (g.K.Sink.held c.give_five.new.out) text))
+    (search rules) c.give_five.ensures.part

@@ -1,0 +1,12 @@
+pub mod Answer
+pub mod Asked
+pub mod Checked
+pub mod Options
+pub mod Outcome
+pub mod Packing
+pub mod Peeked
+pub mod Reports
+pub mod Requests
+pub mod Seen
+pub mod Texts
+pub mod Told

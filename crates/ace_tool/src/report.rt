@@ -1,0 +1,88 @@
+// What is told of a trace.
+ghost use Rattle.std.specs.Prelude.{◌≡◌, ◌≢◌};
+ghost use Rattle.ace_tool.specs.Reports.{open_text, status_of, status_of_verdict, verdict_text};
+
+use crate::folder::OpenErr;
+use crate::packing::Packing;
+use ace_verdict::Verdict;
+use arrayvec::ArrayString;
+use itoa::Buffer;
+
+/// What is told of a trace.
+#[derive(Clone, Copy)]
+pub enum Report {
+    /// The verdict on it.
+    Told { verdict: Verdict },
+    /// Its file could not be opened.
+    Shut { error: OpenErr },
+    /// Its file is compressed.
+    Compressed { packing: Packing },
+}
+
+/// The status of a verdict.
+fn status_of_verdict(verdict: Verdict) -> u8
+    ensures { result ≡ status_of_verdict verdict }
+{
+    match verdict {
+        Verdict::Accepted { .. } => 0,
+        Verdict::Refused { .. } => 1,
+        Verdict::Malformed { .. } => 3,
+        Verdict::ReadFault => 4,
+        Verdict::LimitEvents | Verdict::LimitLines => 6,
+        Verdict::NoMemory => 7,
+    }
+}
+
+/// The status of a report.
+pub(crate) fn status_of(report: Report) -> u8
+    ensures { result ≡ status_of report }
+{
+    match report {
+        Report::Told { verdict } => status_of_verdict(verdict),
+        Report::Shut { .. } | Report::Compressed { .. } => 4,
+    }
+}
+
+/// The text of a verdict, as `ace check` says it.
+pub(crate) fn verdict_text(verdict: Verdict) -> ArrayString<64>
+    ensures { result.bytes ≡ verdict_text verdict }
+{
+    let mut text = ArrayString::new();
+    let mut digits = Buffer::new();
+    match verdict {
+        Verdict::Accepted { events } => {
+            text.push_str("accepted ");
+            text.push_str(digits.format(events));
+        }
+        Verdict::Refused { index, rule } => {
+            text.push_str("refused event ");
+            text.push_str(digits.format(index));
+            text.push_str(": K");
+            text.push_str(digits.format(rule));
+        }
+        Verdict::Malformed { line, reason } => {
+            text.push_str("malformed line ");
+            text.push_str(digits.format(line));
+            text.push_str(": F");
+            text.push_str(digits.format(reason.number()));
+        }
+        Verdict::ReadFault => text.push_str("read fault"),
+        Verdict::LimitEvents => text.push_str("limit events"),
+        Verdict::LimitLines => text.push_str("limit lines"),
+        Verdict::NoMemory => text.push_str("out of memory"),
+    }
+    text
+}
+
+/// Why a file could not be opened, in words.
+pub(crate) fn open_text(error: OpenErr) -> ArrayString<64>
+    ensures { result.bytes ≡ open_text error }
+{
+    let mut text = ArrayString::new();
+    match error {
+        OpenErr::NotThere => text.push_str("No such file or directory"),
+        OpenErr::NotAllowed => text.push_str("Permission denied"),
+        OpenErr::Failed => text.push_str("cannot be opened"),
+    }
+    text
+}
