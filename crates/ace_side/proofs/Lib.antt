@@ -1,0 +1,4 @@
+pub mod HexDigits
+pub mod Pieces
+pub mod OwnParts
+pub mod TextLines
