@@ -2,3 +2,4 @@ pub mod HexDigits
 pub mod Pieces
 pub mod OwnParts
 pub mod TextLines
+pub mod BadLines

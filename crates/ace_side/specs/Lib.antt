@@ -5,3 +5,5 @@ pub mod Parts
 pub mod Order
 pub mod Reading
 pub mod Kept
+pub mod Errors
+pub mod Reader
