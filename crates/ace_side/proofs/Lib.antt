@@ -3,3 +3,4 @@ pub mod Pieces
 pub mod OwnParts
 pub mod TextLines
 pub mod BadLines
+pub mod SameLines

@@ -124,8 +124,8 @@ pub read_text : (bytes word : List ℕ) (fields : List (List ℕ)) (k : LineKind
 read_text bytes word fields k line e known read = (
   read.0,
   same_pieces (side_text line) bytes
-  (own_parts line read.0 ∙ ap (λ j. word_text j ∷ fields_behind line) read.1 ∙ ap (λ (w : List ℕ). w ∷ fields_behind line) (sym (told_word word k known))
-  ∙ ap (λ (l : List (List ℕ)). word ∷ l) read.2 ∙ sym e),
+      (own_parts line read.0 ∙ ap (λ j. word_text j ∷ fields_behind line) read.1 ∙ ap (λ (w : List ℕ). w ∷ fields_behind line) (sym (told_word word k known))
+      ∙ ap (λ (l : List (List ℕ)). word ∷ l) read.2 ∙ sym e),
 )
 
 word_is : (one other : List ℕ) (fields more : List (List ℕ)) → one ∷ fields ≡ other ∷ more → (one ≡ other) × (fields ≡ more)
@@ -136,17 +136,17 @@ pub no_text : (bytes word : List ℕ) (fields : List (List ℕ)) (k : LineKind) 
     → IsReadBehind k fields (Err why) → IsNoLine bytes why
 no_text bytes word fields k why e known read = (
   λ line is.
-  let same = word_is (word_text (kind_of line)) word (fields_behind line) fields (sym (own_parts line is.0) ∙ ap cut is.1 ∙ e) in
-  let kinds : kind_of line ≡ k = some_is _ _ (sym (known_word (kind_of line)) ∙ ap (λ (w : List ℕ). lookup (bytes_eq w) words) same.0 ∙ known) in
-  read.1 line is.0 kinds same.1,
+      let same = word_is (word_text (kind_of line)) word (fields_behind line) fields (sym (own_parts line is.0) ∙ ap cut is.1 ∙ e) in
+      let kinds : kind_of line ≡ k = some_is _ _ (sym (known_word (kind_of line)) ∙ ap (λ (w : List ℕ). lookup (bytes_eq w) words) same.0 ∙ known) in
+      read.1 line is.0 kinds same.1,
   read.0 ∙ ap (λ o. reason_behind o fields) (sym known) ∙ ap form_reason (sym e),
 )
 
 pub no_word : (bytes word : List ℕ) (fields : List (List ℕ)) → cut bytes ≡ word ∷ fields → lookup (bytes_eq word) words ≡ None → IsNoLine bytes S2
 no_word bytes word fields e known = (
   λ line is.
-  let same = word_is (word_text (kind_of line)) word (fields_behind line) fields (sym (own_parts line is.0) ∙ ap cut is.1 ∙ e) in
-  none_isn't (kind_of line) _ (sym known ∙ ap (λ (w : List ℕ). lookup (bytes_eq w) words) (sym same.0) ∙ known_word (kind_of line)),
+      let same = word_is (word_text (kind_of line)) word (fields_behind line) fields (sym (own_parts line is.0) ∙ ap cut is.1 ∙ e) in
+      none_isn't (kind_of line) _ (sym known ∙ ap (λ (w : List ℕ). lookup (bytes_eq w) words) (sym same.0) ∙ known_word (kind_of line)),
   ap (λ o. reason_behind o fields) (sym known) ∙ ap form_reason (sym e),
 )
 
@@ -154,3 +154,7 @@ pub read_line : (bytes word : List ℕ) (fields : List (List ℕ)) (k : LineKind
     → IsReadBehind k fields r → IfOk r (λ line. IsTextOf line bytes) × IfErr r (IsNoLine bytes)
 read_line bytes word fields k (Ok line) e known read = (read_text bytes word fields k line e (sym known) read, tt)
 read_line bytes word fields k (Err why) e known read = (tt, no_text bytes word fields k why e (sym known) read)
+
+-- kinds with one word are one
+pub same_kind : (k j : LineKind) → word_text k ≡ word_text j → k ≡ j
+same_kind k j e = some_is k j (sym (known_word k) ∙ ap (λ (w : List ℕ). lookup (bytes_eq w) words) e ∙ known_word j)

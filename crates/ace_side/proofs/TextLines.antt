@@ -51,12 +51,12 @@ pub another_form : (k : LineKind) (IsFirst IsText : List ℕ → Type 0) (fields
 another_form k IsFirst IsText fields a text count ends e none = (
   sym (cond-true (has_count k (length fields)) S4 S3 (count (length fields) ∙ le-leb 2 (length fields) (two_pieces fields a text e))),
   λ line fits is same.
-  let end = ends line fits is in
-  let apart = parted end.first a (cut end.text) (cut text) (sym end.are ∙ same ∙ e) in
-  elim none [
-    | inl first ↦ first (subst IsFirst apart.0 end.is_first)
-    | inr other ↦ other (subst IsText (same_pieces end.text text apart.1) end.is_text)
-  ],
+      let end = ends line fits is in
+      let apart = parted end.first a (cut end.text) (cut text) (sym end.are ∙ same ∙ e) in
+      elim none [
+        | inl first ↦ first (subst IsFirst apart.0 end.is_first)
+        | inr other ↦ other (subst IsText (same_pieces end.text text apart.1) end.is_text)
+      ],
 )
 
 -- there are too few fields
@@ -65,6 +65,6 @@ pub too_few : (k : LineKind) (IsFirst IsText : List ℕ → Type 0) (fields : Li
 too_few k IsFirst IsText fields count ends few = (
   sym (cond-false (has_count k (length fields)) S4 S3 (count (length fields) ∙ lt-leb 2 (length fields) few)),
   λ line fits is same.
-  let end = ends line fits is in
-  omega (arith, few, ap length same, two_pieces (fields_behind line) end.first end.text end.are),
+      let end = ends line fits is in
+      omega (arith, few, ap length same, two_pieces (fields_behind line) end.first end.text end.are),
 )

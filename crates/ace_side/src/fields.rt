@@ -142,11 +142,7 @@ fn is_name(name: &[u8]) -> bool
     ensures { result ≡ is_name name.now }
 {
     let count = name.len();
-    1 <= count
-        && count <= 64
-        && are_printable(name)
-        && name[0] != b' '
-        && name[count - 1] != b' '
+    1 <= count && count <= 64 && are_printable(name) && name[0] != b' ' && name[count - 1] != b' '
 }
 
 /// The unit of times.

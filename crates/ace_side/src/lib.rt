@@ -4,6 +4,7 @@
 mod error;
 mod fields;
 mod kind;
+pub mod laws;
 mod line;
 mod lines;
 mod order;

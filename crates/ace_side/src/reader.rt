@@ -42,10 +42,7 @@ impl<'a, S: Source> SideReader<'a, S> {
     ///
     /// `Malformed` exactly where the first line is missing or another one; `ReadFault` only where the source's count of faults rose
     /// in this call, and then what was taken from it is less than a line; `NoMemory` never. The error hands the source back.
-    pub fn start(
-        alloc: Global,
-        source: &'a mut S,
-    ) -> Result<SideReader<'a, S>, SideStartErr<'a, S>>
+    pub fn start(alloc: Global, source: &'a mut S) -> Result<SideReader<'a, S>, SideStartErr<'a, S>>
         ensures same_source { IfOk result (λ r. (source_of r).ghost_name ≡ source.entry.ghost_name) }
         ensures read { IfOk result (HasRead S.left (S.left source.entry.now) []) }
         ensures reads_on { IfOk result (λ r. stage_of r ≡ Reading) }
@@ -112,7 +109,12 @@ impl<'a, S: Source> SideReader<'a, S> {
         ensures stage { stage_of self.new ≡ stage_after result }
         ensures cause { HasFaultCause result (S.faults (source_of self.old).now) (S.faults (source_of self.new).now) }
     {
-        match read_next(&mut self.lines, &mut self.line, &mut self.order, self.number) {
+        match read_next(
+            &mut self.lines,
+            &mut self.line,
+            &mut self.order,
+            self.number,
+        ) {
             Ok(Some(line)) => {
                 self.number = self.number.saturating_add(1);
                 self.stage = Stage::Reading;
