@@ -1,5 +1,5 @@
 -- Malformed lines at the front of the bytes.
-use Rattle.std.proofs.Common.{◌≡◌, ◌≢◌, ℕ, ◌<◌, List, [], ◌∷◌, ◌++◌, length, Option, None, Some, refl, sym, ap, subst, ◌∙◌, inl, inr, arith}
+use Rattle.std.proofs.Common.{◌≢◌, ℕ, ◌<◌, List, length, Option, None, Some, refl, sym, ◌∙◌, inl, arith}
 use Rattle.std.proofs.lemmas.List.Elements.{All-from_recursion}
 use Rattle.std.specs.Io.KnownBytes.{Consumes, IsAtEnd}
 use Rattle.ace_event.specs.Text.{line_text}
@@ -10,9 +10,8 @@ use Rattle.ace_grammar.specs.Reading.{IfTold}
 use Rattle.ace_grammar.proofs.FirstLines.Cut.{cut_line_is_none, some_left}
 use Rattle.ace_side.specs.declared.line.SideLine.{SideLine}
 use Rattle.ace_side.specs.declared.reason.Reason.TheVariants.{S1}
-use Rattle.ace_side.specs.declared.reason.Reason.{Reason}
 use Rattle.ace_side.specs.Text.{first_text}
-use Rattle.ace_side.specs.Reading.{HasBadLine, HasBadStart, HasReason}
+use Rattle.ace_side.specs.Reading.{HasBadLine, HasBadStart}
 
 -- a line without an end
 pub cut_line_is_bad : (past : List SideLine) (old new : Option (List ℕ)) (line : List ℕ) → HasNoLf line → 0 < length line → (length line < 256 → IsAtEnd new)
@@ -22,7 +21,7 @@ cut_line_is_bad past (Some bytes) None line clean some end c = absurd c
 cut_line_is_bad past (Some bytes) (Some rest) line clean some end c =
     inl (refl, (λ none. some_left line rest some (sym c ∙ none)), cut_line_is_none (Some bytes) (Some rest) line clean end c)
 
-first_clean : HasNoLf first_text
+pub first_clean : HasNoLf first_text
 first_clean = All-from_recursion (λ b. b ≢ 10) first_text (grind arith)
 
 -- no line is no first line

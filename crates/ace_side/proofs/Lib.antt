@@ -4,3 +4,4 @@ pub mod OwnParts
 pub mod TextLines
 pub mod BadLines
 pub mod SameLines
+pub mod OneReading

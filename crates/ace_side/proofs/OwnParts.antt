@@ -1,27 +1,27 @@
 -- The text of a line is cut into its word and its fields, and into nothing else.
-use Rattle.std.proofs.Common.{◌≡◌, ◌≢◌, ℕ, ◌+◌, ◌%◌, ◌/◌, ◌^◌, ◌<◌, ◌≤◌, Bool, true, false, leb, ◌&&◌, cond, List, [], ◌∷◌, ◌++◌, length, Option, Some, None, Result, Ok, Err, IfOk, IfErr, refl, sym, ap, subst, ◌∙◌, arith, inl, inr}
+use Rattle.std.proofs.Common.{◌≡◌, ℕ, ◌+◌, ◌%◌, ◌^◌, ◌<◌, true, leb, ◌&&◌, List, [], ◌∷◌, ◌++◌, length, Some, None, Result, Ok, Err, IfOk, IfErr, refl, sym, ap, ◌∙◌, arith, inl, inr}
 use Rattle.std.specs.Prelude.{codes, decimal}
 use Rattle.std.specs.List.{AllByRecursion, list_all, join_with_byte}
 use Rattle.std.specs.Map.{lookup}
 use Rattle.std.specs.Str.{bytes_eq}
-use Rattle.std.proofs.lemmas.Bool.{and_parts, leb-true, le-leb}
+use Rattle.std.proofs.lemmas.Bool.{and_parts, leb-true}
 use Rattle.std.proofs.lemmas.Fmt.{decimal_by_steps}
 use Rattle.std.proofs.lemmas.Slice.Eq.{bytes_eq-Decides}
 use Rattle.ace_event.specs.Text.{hex_text}
 use Rattle.ace_grammar.proofs.General.Options.{chosen, none_isn't, some_is}
-use Rattle.ace_grammar.proofs.General.Visible.{IsPlain, IsVisible, all-append, all-weaker, visible-plain}
+use Rattle.ace_grammar.proofs.General.Visible.{IsPlain, IsVisible, all-append, visible-plain}
 use Rattle.ace_grammar.proofs.Digits.Hex.{hex_text-visible}
 use Rattle.ace_side.specs.declared.kind.LineKind.{LineKind}
 use Rattle.ace_side.specs.declared.kind.LineKind.TheVariants as kind
 use Rattle.ace_side.specs.declared.line.SideLine.{SideLine}
 use Rattle.ace_side.specs.declared.line.SideLine.TheVariants.{TimeUnit, Port, Addr, Time, Id, Note, Word, End, Broken, Cut}
 use Rattle.ace_side.specs.declared.reason.Reason.{Reason}
-use Rattle.ace_side.specs.declared.reason.Reason.TheVariants.{S2, S3, S4}
-use Rattle.ace_side.specs.Text.{digits_text, side_fields, side_text}
+use Rattle.ace_side.specs.declared.reason.Reason.TheVariants.{S2}
+use Rattle.ace_side.specs.Text.{digits_text, side_text}
 use Rattle.ace_side.specs.Grammar.{Fits, is_visible, is_unit}
-use Rattle.ace_side.specs.Reasons.{words, last_words, has_count, reason_behind, form_reason, IsTextOf, IsNoLine}
+use Rattle.ace_side.specs.Reasons.{words, reason_behind, form_reason, IsTextOf, IsNoLine}
 use Rattle.ace_side.specs.Parts.{cut, kind_of, fields_behind, IsReadBehind}
-use Rattle.ace_side.proofs.Pieces.{some_piece, cut_plain, cut_behind, same_pieces}
+use Rattle.ace_side.proofs.Pieces.{cut_plain, cut_behind, same_pieces}
 
 -- ---- fields without spaces
 

@@ -1,18 +1,16 @@
 -- One text, one line; one line of bytes, one reason.
-use Rattle.std.proofs.Common.{◌≡◌, ◌≢◌, ◌⊎◌, ℕ, ◌^◌, ◌<◌, ◌≤◌, List, [], ◌∷◌, ◌++◌, length, Option, Some, None, refl, sym, ap, subst, ◌∙◌, arith, inl, inr}
+use Rattle.std.proofs.Common.{◌≡◌, ℕ, ◌^◌, ◌<◌, List, [], ◌∷◌, None, sym, ap, ◌∙◌, arith, inl, inr}
 use Rattle.std.specs.Prelude.{decimal}
 use Rattle.std.proofs.lemmas.Fmt.{decimal_injective}
 use Rattle.ace_event.specs.Text.{hex_text}
 use Rattle.ace_grammar.proofs.General.Options.{none_isn't, some_is}
-use Rattle.ace_side.specs.declared.kind.LineKind.{LineKind}
-use Rattle.ace_side.specs.declared.kind.LineKind.TheVariants as kind
 use Rattle.ace_side.specs.declared.line.Digits.{Digits}
 use Rattle.ace_side.specs.declared.line.SideLine.{SideLine}
 use Rattle.ace_side.specs.declared.line.SideLine.TheVariants.{TimeUnit, Port, Addr, Time, Id, Note, Word, End, Broken, Cut}
 use Rattle.ace_side.specs.declared.reason.Reason.{Reason}
 use Rattle.ace_side.specs.Text.{digits_text, side_text}
-use Rattle.ace_side.specs.Grammar.{Fits, AreDigits}
-use Rattle.ace_side.specs.Reasons.{IsTextOf, IsNoLine}
+use Rattle.ace_side.specs.Grammar.{Fits}
+use Rattle.ace_side.specs.Reasons.{IsTextOf}
 use Rattle.ace_side.specs.Order.{order_reason}
 use Rattle.ace_side.specs.Reading.{HasReason}
 use Rattle.ace_side.specs.Parts.{cut, kind_of, fields_behind}

@@ -1,12 +1,12 @@
 -- Lines that end with a text, which may hold spaces.
-use Rattle.std.proofs.Common.{◌≡◌, ◌≢◌, ◌⊎◌, ℕ, ◌+◌, ◌^◌, ◌<◌, ◌≤◌, Bool, true, false, leb, cond, List, [], ◌∷◌, length, Result, Ok, Err, refl, sym, ap, subst, ◌∙◌, arith, inl, inr}
+use Rattle.std.proofs.Common.{◌≡◌, ◌⊎◌, ℕ, ◌^◌, ◌<◌, ◌≤◌, true, leb, List, ◌∷◌, length, Err, refl, sym, ap, subst, ◌∙◌, arith, inl, inr}
 use Rattle.std.specs.Prelude.{decimal}
 use Rattle.std.proofs.lemmas.Bool.{cond-true, cond-false, le-leb, lt-leb}
 use Rattle.ace_event.specs.Text.{hex_text}
 use Rattle.ace_side.specs.declared.kind.LineKind.{LineKind}
 use Rattle.ace_side.specs.declared.kind.LineKind.TheVariants as kind
 use Rattle.ace_side.specs.declared.line.SideLine.{SideLine}
-use Rattle.ace_side.specs.declared.line.SideLine.TheVariants.{TimeUnit, Port, Addr, Time, Id, Note, Word, End, Broken, Cut}
+use Rattle.ace_side.specs.declared.line.SideLine.TheVariants.{Port, Note}
 use Rattle.ace_side.specs.declared.reason.Reason.TheVariants.{S3, S4}
 use Rattle.ace_side.specs.Grammar.{Fits, is_name, is_note}
 use Rattle.ace_side.specs.Reasons.{has_count}

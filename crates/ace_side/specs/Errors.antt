@@ -1,5 +1,5 @@
 -- What an answer of the reader says of the bytes and of their source.
-use Rattle.std.specs.Prelude.{◌≡◌, ⊤, ℕ, List, [], Option, None, Some, Result, Ok, Err}
+use Rattle.std.specs.Prelude.{◌≡◌, ⊤, ℕ, List, Option, None, Some, Result, Ok, Err}
 use Rattle.std.specs.Io.KnownBytes.{Consumes, IsAtEnd}
 use Rattle.ace_event.specs.Text.{line_text}
 use Rattle.ace_io.specs.Faults.{Rose}

@@ -1,5 +1,5 @@
 -- What the fields of a line can be.
-use Rattle.std.specs.Prelude.{◌≡◌, ◌<◌, ◌≤◌, ◌^◌, ◌-◌, ◌%◌, ◌*◌, ◌⊎◌, ℕ, Bool, true, not, ◌==◌, ◌&&◌, nat_le, List, length, slice_index}
+use Rattle.std.specs.Prelude.{◌≡◌, ◌<◌, ◌≤◌, ◌^◌, ◌-◌, ◌%◌, ◌⊎◌, ℕ, Bool, true, not, ◌==◌, ◌&&◌, nat_le, List, length, slice_index}
 use Rattle.std.specs.List.{list_all}
 use Rattle.ace_side.specs.declared.line.Digits.{Digits}
 use Rattle.ace_side.specs.declared.line.SideLine.{SideLine}

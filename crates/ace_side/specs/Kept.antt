@@ -2,7 +2,7 @@
 use Rattle.std.specs.Prelude.{◌≡◌, ℕ, ◌&&◌, Bool, true, not, nat_eq, nat_lt, nat_le, List, Option, Some, None, is_none}
 use Rattle.indexmap.specs.IndexSet.{contains}
 use Rattle.ace_side.specs.declared.line.SideLine.{SideLine}
-use Rattle.ace_side.specs.declared.line.SideLine.TheVariants.{TimeUnit, Port, Addr, Time, Id, Note, Word, End, Broken, Cut}
+use Rattle.ace_side.specs.declared.line.SideLine.TheVariants.{TimeUnit, Port, Addr, Time, Id, Note}
 use Rattle.ace_side.specs.declared.line.SideEnd.{SideEnd}
 use Rattle.ace_side.specs.declared.order.Order.{Order}
 use Rattle.ace_side.specs.Order.{allows, may_follow, end_of, first_of, ending}

@@ -1,8 +1,8 @@
 -- Which lines may stand behind which.
-use Rattle.std.specs.Prelude.{◌≡◌, ℕ, ◌==◌, ◌&&◌, Bool, true, false, not, nat_lt, nat_le, if◌then◌else◌, List, [], ◌∷◌, Option, Some, None}
+use Rattle.std.specs.Prelude.{ℕ, ◌==◌, ◌&&◌, Bool, true, false, not, nat_lt, nat_le, if◌then◌else◌, List, [], ◌∷◌, Option, Some, None}
 use Rattle.std.specs.List.{list_all}
 use Rattle.ace_side.specs.declared.line.SideLine.{SideLine}
-use Rattle.ace_side.specs.declared.line.SideLine.TheVariants.{TimeUnit, Port, Addr, Time, Id, Note, Word, End, Broken, Cut}
+use Rattle.ace_side.specs.declared.line.SideLine.TheVariants.{TimeUnit, Port, Addr, Time, Id, Note, End, Broken, Cut}
 use Rattle.ace_side.specs.declared.line.SideEnd.{SideEnd}
 use Rattle.ace_side.specs.declared.line.SideEnd.TheVariants as ends
 use Rattle.ace_side.specs.declared.reason.Reason.{Reason}

@@ -1,5 +1,5 @@
 -- A line by its word and the fields behind it, where spaces part a name and a text too.
-use Rattle.std.specs.Prelude.{◌≡◌, ◌≢◌, ℕ, ◌==◌, List, [], ◌∷◌, decimal, Option, Some, None, Result, Ok, Err}
+use Rattle.std.specs.Prelude.{◌≡◌, ◌≢◌, ℕ, ◌==◌, List, [], ◌∷◌, decimal, Some, Result, Ok, Err}
 use Rattle.std.specs.List.{slice_split}
 use Rattle.ace_event.specs.Text.{hex_text}
 use Rattle.ace_side.specs.declared.kind.LineKind.{LineKind}

@@ -1,5 +1,5 @@
 -- How bytes read as a side file. Its text is written and compared here, and never cut.
-use Rattle.std.specs.Prelude.{◌≡◌, ◌≢◌, ◌<◌, ◌+◌, ⊤, ℕ, ◌⊎◌, List, [], ◌∷◌, ◌++◌, length, Option, Some, None}
+use Rattle.std.specs.Prelude.{◌≡◌, ◌≢◌, ◌<◌, ◌+◌, ⊤, ℕ, ◌⊎◌, List, [], ◌∷◌, ◌++◌, length, Some, None}
 use Rattle.ace_event.specs.Text.{line_text}
 use Rattle.ace_grammar.specs.Lines.{BeginsWith, IsFirstLine, HasNoLine}
 use Rattle.ace_side.specs.declared.line.SideLine.{SideLine}

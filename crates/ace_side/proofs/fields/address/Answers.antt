@@ -1,4 +1,4 @@
-use Rattle.std.proofs.Common.{refl, sym, ◌∙◌, arith}
+use Rattle.std.proofs.Common.{sym, ◌∙◌, arith}
 use Rattle.ace_side.proofs.HexDigits.{same_number}
 use Rattle.ace_side.proofs.fields.address.Goals as goal
 

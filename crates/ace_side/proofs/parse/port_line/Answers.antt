@@ -1,4 +1,4 @@
-use Rattle.std.proofs.Common.{refl, inl, inr}
+use Rattle.std.proofs.Common.{refl, inl, inr, rules}
 use Rattle.ace_side.specs.declared.kind.LineKind.TheVariants as kind
 use Rattle.ace_side.proofs.TextLines.{IsPort, ports_end, another_form}
 use Rattle.ace_side.proofs.parse.port_line.Goals as goal
@@ -9,5 +9,5 @@ returns-in_default c =
     another_form kind.Port IsPort _ _ c.in-Some.field.now c.in-Some.text.now (λ n. refl) ports_end c.in-Some.ensures.fields
     (elim c.in_default.branch [
       | in_default-via-in-Some+in_default w ↦ inr w.in_default.ensures'
-      | in_default-via-in_default w ↦ inl (λ p. w.in_default.ensures-1 p.0 p.1 p.2)
+      | in_default-via-in_default w ↦ inl (λ p. search rules)
     ])

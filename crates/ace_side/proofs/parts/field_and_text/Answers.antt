@@ -1,4 +1,3 @@
-use Rattle.std.proofs.Common.{ap, length, arith}
 use Rattle.ace_side.proofs.Pieces.{two_left}
 use Rattle.ace_side.proofs.parts.field_and_text.Goals as goal
 

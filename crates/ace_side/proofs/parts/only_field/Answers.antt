@@ -1,4 +1,4 @@
-use Rattle.std.proofs.Common.{ap, length, arith}
+use Rattle.std.proofs.Common.{arith}
 use Rattle.ace_side.proofs.Pieces.{two_left}
 use Rattle.ace_side.proofs.parts.only_field.Goals as goal
 
