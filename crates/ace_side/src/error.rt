@@ -4,8 +4,9 @@ use thiserror::Error;
 /// Why a side file could not be read on.
 #[derive(Clone, Copy, Debug, PartialEq, Eq, Error)]
 pub enum SideErr {
-    /// The line of this number, from 1, is the first that is malformed, and of the reasons this is the least that applies. From
-    /// 18446744073709551615 on each line counts as that of that number.
+    /// The line of this number, from 1, is the first that is malformed, and of the reasons this is
+    /// the least that applies. From 18446744073709551615 on each line counts as that of that
+    /// number.
     #[error("a malformed line")]
     Malformed { line: u64, reason: Reason },
     /// The source of the bytes failed.

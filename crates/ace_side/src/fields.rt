@@ -12,7 +12,8 @@ use itoa::Buffer;
 
 /// The decimal number that this text is, with neither a sign nor leading zeros.
 fn plain_number(text: &str) -> Option<u64>
-    ensures { MatchOption result ((n : ℕ) → n < 2 ^ 64 → decimal n ≢ text.now) (λ n. decimal n ≡ text.now) }
+    ensures { MatchOption result ((n : ℕ) → n < 2 ^ 64
+        → decimal n ≢ text.now) (λ n. decimal n ≡ text.now) }
 {
     match text.parse::<u64>() {
         Ok(n) => {
@@ -28,7 +29,8 @@ fn plain_number(text: &str) -> Option<u64>
 
 /// The same, of bytes.
 pub fn number(field: &[u8]) -> Option<u64>
-    ensures { MatchOption result ((n : ℕ) → n < 2 ^ 64 → decimal n ≢ field.now) (λ n. decimal n ≡ field.now) }
+    ensures { MatchOption result ((n : ℕ) → n < 2 ^ 64
+        → decimal n ≢ field.now) (λ n. decimal n ≡ field.now) }
 {
     match str::from_utf8(field) {
         Ok(text) => plain_number(text),
@@ -70,7 +72,8 @@ fn fixed(field: &[u8], count: u8) -> Option<u64>
 
 /// The number of a port.
 pub fn port(field: &[u8]) -> Option<u8>
-    ensures { MatchOption result ((n : ℕ) → n < 256 → hex_text 2 n ≢ field.now) (λ n. hex_text 2 n ≡ field.now) }
+    ensures { MatchOption result ((n : ℕ) → n < 256
+        → hex_text 2 n ≢ field.now) (λ n. hex_text 2 n ≡ field.now) }
 {
     match fixed(field, 2) {
         Some(port) => Some(port as u8),
@@ -80,7 +83,8 @@ pub fn port(field: &[u8]) -> Option<u8>
 
 /// A word of eight digits.
 pub fn word(field: &[u8]) -> Option<u32>
-    ensures { MatchOption result ((n : ℕ) → n < 2 ^ 32 → hex_text 8 n ≢ field.now) (λ n. hex_text 8 n ≡ field.now) }
+    ensures { MatchOption result ((n : ℕ) → n < 2 ^ 32
+        → hex_text 8 n ≢ field.now) (λ n. hex_text 8 n ≡ field.now) }
 {
     match fixed(field, 8) {
         Some(word) => Some(word as u32),
@@ -147,7 +151,8 @@ fn is_name(name: &[u8]) -> bool
 
 /// The unit of times.
 pub fn unit(field: &[u8]) -> Option<ShortText>
-    ensures { MatchOption result (is_unit field.now ≢ true) (λ t. (is_unit field.now ≡ true) × (t ≡ field.now)) }
+    ensures { MatchOption result (is_unit field.now ≢ true) (λ t. (is_unit field.now ≡ true)
+        × (t ≡ field.now)) }
 {
     if is_unit(field) {
         Some(ShortText::of(field))
@@ -158,7 +163,8 @@ pub fn unit(field: &[u8]) -> Option<ShortText>
 
 /// The name of a port.
 pub fn name(text: &[u8]) -> Option<ShortText>
-    ensures { MatchOption result (is_name text.now ≢ true) (λ t. (is_name text.now ≡ true) × (t ≡ text.now)) }
+    ensures { MatchOption result (is_name text.now ≢ true) (λ t. (is_name text.now ≡ true)
+        × (t ≡ text.now)) }
 {
     if is_name(text) {
         Some(ShortText::of(text))
@@ -170,7 +176,8 @@ pub fn name(text: &[u8]) -> Option<ShortText>
 /// The text of a note.
 pub fn note(text: &[u8]) -> Option<ShortText>
     requires { length text.now < 256 }
-    ensures { MatchOption result (is_note text.now ≢ true) (λ t. (is_note text.now ≡ true) × (t ≡ text.now)) }
+    ensures { MatchOption result (is_note text.now ≢ true) (λ t. (is_note text.now ≡ true)
+        × (t ≡ text.now)) }
 {
     if are_printable(text) {
         Some(ShortText::of(text))

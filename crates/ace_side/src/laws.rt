@@ -22,7 +22,8 @@ pub fn worked_texts()
     ensures id { side_text (Id 9 (record { count = 4; value = 0x1a3 })) ≡ codes "ID 9 01a3" }
     ensures note { side_text (Note 21 (codes "core 0 takes an interrupt"))
         ≡ codes "NOTE 21 core 0 takes an interrupt" }
-    ensures word { side_text (Word 0x10000 (record { count = 6; value = 0x8000 })) ≡ codes "WORD 00010000 008000" }
+    ensures word { side_text (Word 0x10000 (record { count = 6; value = 0x8000 }))
+        ≡ codes "WORD 00010000 008000" }
     ensures end { side_text (End 21) ≡ codes "END 21" }
     ensures broken { side_text (Broken 0) ≡ codes "BROKEN 0" }
     ensures cut { side_text (Cut 100) ≡ codes "CUT 100" }
@@ -33,7 +34,8 @@ pub fn worked_texts()
 /// Lines that stand behind others, or can't: those before are given with the newest first.
 pub fn worked_orders()
     ensures first { order_reason [] (Note 0 []) ≡ None }
-    ensures same_event { order_reason (Id 3 (record { count = 1; value = 0 }) ∷ Time 3 5 ∷ Note 3 [] ∷ []) (Note 3 []) ≡ None }
+    ensures same_event { order_reason (Id 3
+        (record { count = 1; value = 0 }) ∷ Time 3 5 ∷ Note 3 [] ∷ []) (Note 3 []) ≡ None }
     ensures two_times { order_reason (Time 3 5 ∷ []) (Time 3 6) ≡ Some S5 }
     ensures earlier_event { order_reason (Note 3 [] ∷ []) (Time 2 5) ≡ Some S5 }
     ensures earlier_time { order_reason (Note 4 [] ∷ Time 3 5 ∷ []) (Time 4 4) ≡ Some S5 }
@@ -46,9 +48,11 @@ pub fn worked_orders()
     ensures goes_on { ending (Time 3 5 ∷ []) ≡ None }
 {}
 
-/// Behind some lines a line of bytes, without its line feed, is the text of one line at most, or it has one reason.
+/// Behind some lines a line of bytes, without its line feed, is the text of one line at most, or
+/// it has one reason.
 pub fn one_reason()
-    ensures line { (bytes : List ℕ) (line other : SideLine) → IsTextOf line bytes → IsTextOf other bytes → line ≡ other }
+    ensures line { (bytes : List ℕ) (line other : SideLine) → IsTextOf line bytes
+        → IsTextOf other bytes → line ≡ other }
     ensures one { (past : List SideLine) (bytes : List ℕ) (reason other : Reason)
         → HasReason past bytes reason → HasReason past bytes other → reason ≡ other }
     ensures apart { (past : List SideLine) (bytes : List ℕ) (reason : Reason) (line : SideLine)
@@ -59,7 +63,8 @@ pub fn one_reason()
 pub fn one_reading()
     ensures one { (bytes : List ℕ) (past other : List SideLine) (end last : Ending)
         → Reads bytes past end → Reads bytes other last → (past ≡ other) × (end ≡ last) }
-    ensures apart { (bytes : List ℕ) (past : List SideLine) (end : Ending) → Reads bytes past end → ¬ HasBadStart bytes }
+    ensures apart { (bytes : List ℕ) (past : List SideLine) (end : Ending) → Reads bytes past end
+        → ¬ HasBadStart bytes }
 {}
 
 /// The text of lines reads as those lines.

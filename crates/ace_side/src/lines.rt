@@ -26,7 +26,8 @@ const FIRST_LINE: &[u8] = b"ACE SIDE 1";
 fn keep(order: &mut Order, line: &SideLine) -> Result<(), LineErr>
     ensures stands { OnOk result ((past : List SideLine) → Stands past order.old
         → (order_reason past line.now ≡ None) × Stands (line.now ∷ past) order.new) }
-    ensures none { IfErr result (λ error. (past : List SideLine) → Stands past order.old → IsOutOfOrder past line.now error) }
+    ensures none { IfErr result (λ error. (past : List SideLine) → Stands past order.old
+        → IsOutOfOrder past line.now error) }
 {
     if !order.permits(line) {
         return Err(LineErr::Malformed(Reason::S5));
@@ -46,7 +47,8 @@ fn add_line(order: &mut Order, bytes: &[u8]) -> Result<SideLine, LineErr>
     ensures line { IfOk result (λ line. IsTextOf line bytes.now) }
     ensures stands { IfOk result (λ line. (past : List SideLine) → Stands past order.old
         → (order_reason past line ≡ None) × Stands (line ∷ past) order.new) }
-    ensures none { IfErr result (λ error. (past : List SideLine) → Stands past order.old → IsRefused past bytes.now error) }
+    ensures none { IfErr result (λ error. (past : List SideLine) → Stands past order.old
+        → IsRefused past bytes.now error) }
 {
     let line = match parse_line(bytes) {
         Ok(line) => line,
@@ -58,7 +60,8 @@ fn add_line(order: &mut Order, bytes: &[u8]) -> Result<SideLine, LineErr>
     }
 }
 
-/// Reads the next line, which has this number. After an error read no more. `line` is room for a line.
+/// Reads the next line, which has this number. After an error read no more. `line` is room for a
+/// line.
 pub fn read_next<S: Source>(
     lines: &mut LineReader<S>,
     line: &mut LineBuf,
@@ -67,10 +70,13 @@ pub fn read_next<S: Source>(
 ) -> Result<Option<SideLine>, SideErr>
     ensures same_source { (source_of lines.new).ghost_name ≡ (source_of lines.old).ghost_name }
     ensures next { (past : List SideLine) → Stands past order.old
-        → StandsNext past number result (waiting S.left lines.old) (waiting S.left lines.new) (S.left (source_of lines.new).now) }
-    ensures kept { IfOk result (λ next. IfSome next (λ line. (past : List SideLine) → Stands past order.old
+        → StandsNext past number result (waiting S.left lines.old) (waiting S.left lines.new)
+        (S.left (source_of lines.new).now) }
+    ensures kept { IfOk result (λ next. IfSome next (λ line. (past : List SideLine)
+        → Stands past order.old
         → Stands (line ∷ past) order.new)) }
-    ensures cause { HasFaultCause result (S.faults (source_of lines.old).now) (S.faults (source_of lines.new).now) }
+    ensures cause { HasFaultCause result (S.faults (source_of lines.old).now) (S.faults
+        (source_of lines.new).now) }
 {
     match lines.next(line) {
         Ok(LineEnd::Whole) => match add_line(order, line.bytes()) {
@@ -93,9 +99,12 @@ pub fn read_next<S: Source>(
 /// Reads the first line. After an error read no more. `line` is room for a line.
 pub fn read_first<S: Source>(lines: &mut LineReader<S>, line: &mut LineBuf) -> Result<(), SideErr>
     ensures same_source { (source_of lines.new).ghost_name ≡ (source_of lines.old).ghost_name }
-    ensures text { OnOk result (Consumes (waiting S.left lines.old) (waiting S.left lines.new) (line_text first_text)) }
-    ensures steady { OnOk result (S.faults (source_of lines.new).now ≡ S.faults (source_of lines.old).now) }
-    ensures none { IfErr result (λ error. HasNoStart error (waiting S.left lines.old) (S.faults (source_of lines.old).now)
+    ensures text { OnOk result (Consumes (waiting S.left lines.old) (waiting S.left lines.new)
+        (line_text first_text)) }
+    ensures steady { OnOk result (S.faults (source_of lines.new).now ≡ S.faults
+        (source_of lines.old).now) }
+    ensures none { IfErr result (λ error. HasNoStart error (waiting S.left lines.old) (S.faults
+        (source_of lines.old).now)
         (S.left (source_of lines.new).now) (S.faults (source_of lines.new).now)) }
 {
     let whole = match take_line(lines, line) {

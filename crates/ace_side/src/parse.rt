@@ -12,7 +12,8 @@ use crate::parts::{field_and_text, first_field, only_field, two_fields};
 use crate::{Reason, SideLine};
 
 fn unit_line(rest: Option<&[u8]>) -> Result<SideLine, Reason>
-    ensures { IsReadBehind kind.TimeUnit (parts (option_map (λ bytes. bytes.now) rest.entry)) result }
+    ensures { IsReadBehind kind.TimeUnit (parts (option_map
+        (λ bytes. bytes.now) rest.entry)) result }
 {
     match only_field(rest) {
         Some(field) => match unit(field) {

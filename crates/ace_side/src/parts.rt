@@ -29,10 +29,13 @@ pub fn only_field(rest: Option<&[u8]>) -> Option<&[u8]>
 
 /// The first field that is left, and what is behind it, where there are two or more.
 pub fn field_and_text(rest: Option<&[u8]>) -> Option<(&[u8], &[u8])>
-    ensures fields { MatchOption result (length (parts (option_map (λ bytes. bytes.now) rest.entry)) < 2)
+    ensures fields { MatchOption result (length (parts (option_map
+        (λ bytes. bytes.now) rest.entry)) < 2)
         (λ x. parts (option_map (λ bytes. bytes.now) rest.entry) ≡ x.0.now ∷ cut x.1.now) }
-    ensures count { IfSome result (λ _. 2 ≤ length (parts (option_map (λ bytes. bytes.now) rest.entry))) }
-    ensures short { IfSome rest.entry (λ bytes. length bytes.now < 256) → IfSome result (λ x. length x.1.now < 256) }
+    ensures count { IfSome result (λ _. 2 ≤ length (parts (option_map
+        (λ bytes. bytes.now) rest.entry))) }
+    ensures short { IfSome rest.entry (λ bytes. length bytes.now < 256)
+        → IfSome result (λ x. length x.1.now < 256) }
 {
     let (field, more) = first_field(rest?);
     match more {

@@ -20,8 +20,8 @@ pub struct SideStartErr<'a, S: Source> {
     pub source: &'a mut S,
 }
 
-/// Reads a side file from a source. Of the lines it keeps what their order asks for: the last numbers, and the ports and
-/// addresses that were named.
+/// Reads a side file from a source. Of the lines it keeps what their order asks for: the last
+/// numbers, and the ports and addresses that were named.
 #[derive(Drop)]
 pub struct SideReader<'a, S: Source> {
     lines: LineReader<'a, S>,
@@ -40,15 +40,18 @@ impl<'a, S: Source> SideReader<'a, S> {
     ///
     /// # Errors
     ///
-    /// `Malformed` exactly where the first line is missing or another one; `ReadFault` only where the source's count of faults rose
-    /// in this call, and then what was taken from it is less than a line; `NoMemory` never. The error hands the source back.
+    /// `Malformed` exactly where the first line is missing or another one; `ReadFault` only where
+    /// the source's count of faults rose in this call, and then what was taken from it is less
+    /// than a line; `NoMemory` never. The error hands the source back.
     pub fn start(alloc: Global, source: &'a mut S) -> Result<SideReader<'a, S>, SideStartErr<'a, S>>
-        ensures same_source { IfOk result (λ r. (source_of r).ghost_name ≡ source.entry.ghost_name) }
+        ensures same_source { IfOk result (λ r. (source_of r).ghost_name
+            ≡ source.entry.ghost_name) }
         ensures read { IfOk result (HasRead S.left (S.left source.entry.now) []) }
         ensures reads_on { IfOk result (λ r. stage_of r ≡ Reading) }
         ensures steady { IfOk result (λ r. S.faults (source_of r).now ≡ S.faults source.entry.now) }
         ensures handed_back { IfErr result (λ e. e.source.ghost_name ≡ source.entry.ghost_name) }
-        ensures none { IfErr result (λ e. HasNoStart e.error (S.left source.entry.now) (S.faults source.entry.now)
+        ensures none { IfErr result (λ e. HasNoStart e.error (S.left source.entry.now)
+            (S.faults source.entry.now)
             (S.left e.source.now) (S.faults e.source.now)) }
     {
         let mut lines = match LineReader::start(alloc, source) {
@@ -71,26 +74,32 @@ impl<'a, S: Source> SideReader<'a, S> {
         }
     }
 
-    /// The next line, or None at the end of the input after a whole line. An answer that is no line stays: each later call gives it
-    /// again, and takes nothing from the source.
+    /// The next line, or None at the end of the input after a whole line. An answer that is no
+    /// line stays: each later call gives it again, and takes nothing from the source.
     ///
     /// # Errors
     ///
-    /// `Malformed` exactly where a line stands next that is malformed, with its number and the least reason that applies.
-    /// `ReadFault` only where the source's count of faults rose in the first call that answers so, and what was taken by then and
-    /// not given is less than a line. `NoMemory` where there is none for what is kept of the line.
+    /// `Malformed` exactly where a line stands next that is malformed, with its number and the
+    /// least reason that applies. `ReadFault` only where the source's count of faults rose in the
+    /// first call that answers so, and what was taken by then and not given is less than a line.
+    /// `NoMemory` where there is none for what is kept of the line.
     pub fn next(&mut self) -> Result<Option<SideLine>, SideErr>
         ensures same_source { (source_of self.new).ghost_name ≡ (source_of self.old).ghost_name }
-        ensures next { stage_of self.old ≡ Reading → (first : Option (List ℕ)) (past : List SideLine)
+        ensures next { stage_of self.old ≡ Reading → (first : Option (List ℕ))
+            (past : List SideLine)
             → HasRead S.left first past self.old
-            → StandsNext past (number_behind past) result (unread S.left self.old) (unread S.left self.new) (S.left (source_of self.new).now) }
-        ensures reads { stage_of self.old ≡ Reading → (first : Option (List ℕ)) (past : List SideLine)
+            → StandsNext past (number_behind past) result (unread S.left self.old)
+            (unread S.left self.new) (S.left (source_of self.new).now) }
+        ensures reads { stage_of self.old ≡ Reading
+            → (first : Option (List ℕ)) (past : List SideLine)
             → HasRead S.left first past self.old → IsReading S.left first past self.new result }
         ensures stage { stage_of self.new ≡ stage_after result }
-        ensures again { (answer : Result (Option SideLine) SideErr) → answer_at (stage_of self.old) ≡ Some answer
+        ensures again { (answer : Result (Option SideLine) SideErr)
+            → answer_at (stage_of self.old) ≡ Some answer
             → (result ≡ answer) × (self.new ≡ self.old) }
         ensures cause { stage_of self.old ≡ Reading
-            → HasFaultCause result (S.faults (source_of self.old).now) (S.faults (source_of self.new).now) }
+            → HasFaultCause result (S.faults (source_of self.old).now) (S.faults
+            (source_of self.new).now) }
     {
         match self.stage {
             Stage::Reading => self.read_on(),
@@ -102,12 +111,15 @@ impl<'a, S: Source> SideReader<'a, S> {
     /// The next line of a reader that reads on.
     fn read_on(&mut self) -> Result<Option<SideLine>, SideErr>
         ensures same_source { (source_of self.new).ghost_name ≡ (source_of self.old).ghost_name }
-        ensures next { (first : Option (List ℕ)) (past : List SideLine) → HasRead S.left first past self.old
-            → StandsNext past (number_behind past) result (unread S.left self.old) (unread S.left self.new) (S.left (source_of self.new).now) }
+        ensures next { (first : Option (List ℕ)) (past : List SideLine)
+            → HasRead S.left first past self.old
+            → StandsNext past (number_behind past) result (unread S.left self.old)
+            (unread S.left self.new) (S.left (source_of self.new).now) }
         ensures reads { (first : Option (List ℕ)) (past : List SideLine)
             → HasRead S.left first past self.old → IsReading S.left first past self.new result }
         ensures stage { stage_of self.new ≡ stage_after result }
-        ensures cause { HasFaultCause result (S.faults (source_of self.old).now) (S.faults (source_of self.new).now) }
+        ensures cause { HasFaultCause result (S.faults (source_of self.old).now) (S.faults
+            (source_of self.new).now) }
     {
         match read_next(
             &mut self.lines,
@@ -133,7 +145,8 @@ impl<'a, S: Source> SideReader<'a, S> {
 
     /// How the lines so far end: None where no END, BROKEN or CUT is among them.
     pub fn ending(&self) -> Option<SideEnd>
-        ensures { (first : Option (List ℕ)) (past : List SideLine) → HasRead S.left first past self.now → result ≡ ending past }
+        ensures { (first : Option (List ℕ)) (past : List SideLine)
+            → HasRead S.left first past self.now → result ≡ ending past }
     {
         self.order.ending()
     }

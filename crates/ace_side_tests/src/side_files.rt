@@ -96,7 +96,8 @@ fn is_refused(alloc: Global, lines: &[u8], line: u64, reason: Reason) -> bool {
     }
 }
 
-/// How many of the texts, which bars part, are malformed in their last line so, up to the first that isn't.
+/// How many of the texts, which bars part, are malformed in their last line so, up to the first
+/// that isn't.
 fn refused(alloc: Global, texts: &[u8], line: u64, reason: Reason) -> usize {
     texts
         .split(|byte| *byte == b'|')
@@ -300,7 +301,8 @@ fn tells_how_it_ends(rt: HostRuntime) -> Result<(), Fail> {
     Ok(())
 }
 
-/// How the reading of the example ends where this take of 30 bytes fails, and whether that answer stays.
+/// How the reading of the example ends where this take of 30 bytes fails, and whether that answer
+/// stays.
 fn fault_at(alloc: Global, failing: u32) -> Result<(Option<SideErr>, bool), NoMemory> {
     let mut source = MemSource::new(alloc, EXAMPLE, &[30], &[failing])?;
     let mut reader = match SideReader::start(alloc, &mut source) {
