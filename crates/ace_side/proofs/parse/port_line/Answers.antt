@@ -1,0 +1,13 @@
+use Rattle.std.proofs.Common.{refl, inl, inr, rules}
+use Rattle.ace_side.specs.declared.kind.LineKind.TheVariants as kind
+use Rattle.ace_side.proofs.TextLines.{IsPort, ports_end, another_form}
+use Rattle.ace_side.proofs.parse.port_line.Goals as goal
+use Rattle.ace_side.proofs.parse.port_line.Goals.{in_default-via-in-Some+in_default, in_default-via-in_default}
+
+pub returns-in_default : goal.returns-in_default
+returns-in_default c =
+    another_form kind.Port IsPort _ _ c.in-Some.field.now c.in-Some.text.now (λ n. refl) ports_end c.in-Some.ensures.fields
+    (elim c.in_default.branch [
+      | in_default-via-in-Some+in_default w ↦ inr w.in_default.ensures'
+      | in_default-via-in_default w ↦ inl (λ p. search rules)
+    ])
