@@ -2,7 +2,8 @@
    of standard error, and allocations. tools/check-faults compiles it, and loads it with LD_PRELOAD.
 
    It reads from its environment, with counts from 0:
-     FAULTS_READ, FAULTS_OUT, FAULTS_NOTES, FAULTS_ALLOC  N: call N fails; N..: each from N on fails
+     FAULTS_READ, FAULTS_OUT, FAULTS_NOTES, FAULTS_ALLOC  N: call N fails; N..M: each from N to M fails; N..: each from N on fails
+     FAULTS_ERROR  the number of the error with which reads and writes fail, if it isn't that of a fault: 4, as where a signal interrupts them
      FAULTS_SHORT_READ, FAULTS_SHORT_OUT, FAULTS_SHORT_NOTES  N: call N moves one byte at most
      FAULTS_SIZE  the most bytes that a read or write moves
      FAULTS_REPORT  the descriptor to which it tells at the end, of each of the four, how many calls there were, how many failed and
@@ -28,6 +29,7 @@ struct stream {
 enum { INPUT, OUT, NOTES, MEMORY, STREAMS };
 static struct stream streams[STREAMS];
 static size most = ~0ul;
+static long error_number = NEVER;
 static int is_on;
 
 static long number(const char **at) {
@@ -48,6 +50,10 @@ static void set(struct stream *stream, const char *fails, const char *one_byte) 
     if (text) {
         stream->from = number(&text);
         stream->to = *text == '.' ? (long)(~0ul >> 1) : stream->from;
+        while (*text == '.')
+            text++;
+        if (*text)
+            stream->to = number(&text);
     }
     stream->one_byte = one_byte ? number_of(one_byte) : NEVER;
 }
@@ -57,6 +63,7 @@ __attribute__((constructor)) static void begin(void) {
     set(&streams[OUT], "FAULTS_OUT", "FAULTS_SHORT_OUT");
     set(&streams[NOTES], "FAULTS_NOTES", "FAULTS_SHORT_NOTES");
     set(&streams[MEMORY], "FAULTS_ALLOC", 0);
+    error_number = number_of("FAULTS_ERROR");
     if (number_of("FAULTS_SIZE") > 0)
         most = number_of("FAULTS_SIZE");
     is_on = 1;
@@ -101,7 +108,7 @@ static int fails(struct stream *stream) {
 
 static long move(struct stream *stream, long call, int fd, void *bytes, size count, int error) {
     if (fails(stream)) {
-        *__errno_location() = error;
+        *__errno_location() = error_number > 0 ? error_number : error;
         return -1;
     }
     size limit = stream->calls - 1 == stream->one_byte ? 1 : most;

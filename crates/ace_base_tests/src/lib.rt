@@ -11,6 +11,8 @@ mod events;
 #[cfg(test)]
 mod outside;
 #[cfg(test)]
+mod patience;
+#[cfg(test)]
 mod places;
 #[cfg(test)]
 mod policies;

@@ -29,10 +29,8 @@ fn map_of(alloc: Global, lines: &[u32]) -> Result<LineMap<usize>, AllocError> {
 
 /// Each of the lines has its place as its value.
 fn finds_all(map: &LineMap<usize>, lines: &[u32]) -> bool {
-    lines
-        .iter()
-        .enumerate()
-        .all(|(place, line)| map.get_index_of(*line) == Some(place) && map.get(*line) == Some(&place))
+    lines.iter().enumerate().all(|(place, line)| map.get_index_of(*line) == Some(place)
+        && map.get(*line) == Some(&place))
 }
 
 #[test]

@@ -2,6 +2,7 @@
 #![tactic(auto)]
 
 use ace_io::{Free, StdSink, StdSource};
+use ace_retry::Patient;
 use ace_top::{ace, tell_no_memory};
 use std::env;
 use std::io::ErrorKind;
@@ -30,9 +31,9 @@ fn read_words(rt: &HostRuntime) -> Option<Vec<String>> {
 
 fn main(rt: HostRuntime) -> ExitCode {
     let alloc = rt.alloc();
-    let mut input = StdSource::new(rt.stdin());
-    let mut out = StdSink::new(rt.stdout());
-    let mut notes = StdSink::new(rt.stderr());
+    let mut input = StdSource::new(Patient::new(rt.stdin()));
+    let mut out = StdSink::new(Patient::new(rt.stdout()));
+    let mut notes = StdSink::new(Patient::new(rt.stderr()));
     let status = match read_words(&rt) {
         Some(words) => ace(
             &rt,

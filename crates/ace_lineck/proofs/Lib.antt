@@ -30,6 +30,7 @@ pub mod WriteLaws
 -- What the interconnect looks up of a line.
 pub mod LineLooks
 pub mod WaitingLooks
+pub mod PortLooks
 -- Which rule is told, where one is asked by itself, and where two are asked in order.
 pub mod Asked
 -- The AR or AW of a line transaction: what it asks of its line.

@@ -1,14 +1,11 @@
 -- What is kept of a line, looked up for the transaction that is granted on it.
-use Rattle.std.proofs.Common.{◌≡◌, ℕ, Bool, true, false, not, ◌&&◌, if◌then◌else◌, Option, Some, None, option_map, refl, sym, ap, ◌∙◌}
+use Rattle.std.proofs.Common.{◌≡◌, ℕ, true, false, not, ◌&&◌, if◌then◌else◌, Option, Some, None, option_map, refl, sym, ap, ◌∙◌}
 use Rattle.std.proofs.lemmas.Bool.{and_parts}
 use Rattle.ace_lineck.proofs.Terms.{AwKind, Channel, Read, Write, Line, Transaction, data_of, Header, Trace, IsAccepted, is_some_and, is_read, write_kind, has_write_data, granted, has_passed_data, has_sharer, passed_data, memory_of, reply_of, is_burst_whole, has_memory_write, WriteData, Grant, GrantStands, has_passed, is_shared_under, reply_kept, written_kept}
 use Rattle.ace_model.specs.WriteRules as rules
-use Rattle.ace_model.specs.Grants.{was_snooped}
 use Rattle.ace_model.proofs.General.Options.{Some-injective, is_some_and-is, some_if-is}
 use Rattle.ace_portck.specs.Targets.{data_of_write}
-use Rattle.ace_lineck.specs.Grants.{stage_at}
-use Rattle.ace_lineck.specs.Kept.{is_unsnooped}
-use Rattle.ace_lineck.proofs.GrantLaws.{passed-law, unsnooped-is}
+use Rattle.ace_lineck.proofs.GrantLaws.{passed-law}
 use Rattle.ace_lineck.proofs.ReplyLaws.{reply-law}
 use Rattle.ace_lineck.proofs.WriteLaws.{the_burst, written-law}
 
@@ -23,15 +20,6 @@ module _ (h : Header) (past : Trace) (a : IsAccepted h past) (l : ℕ) where
     pub sharer-look : (g : Option Grant) → GrantStands h past l g → is_shared_under g ≡ has_sharer h past l
     sharer-look None f = let bad : None ≡ Some x = sym f ∙ there in cc
     sharer-look (Some g) f = f.shared
-
-    -- whether a port was snooped for it
-    pub snooped-look : (p : ℕ) (g : Option Grant) → GrantStands h past l g → is_some_and g (λ g. not (is_unsnooped (stage_at g.stages p))) ≡ was_snooped past p l
-    snooped-look p None f = let bad : None ≡ Some x = sym f ∙ there in cc
-    snooped-look p (Some g) f = ap (λ s. not (is_unsnooped s)) (f.stages p) ∙ ap not (unsnooped-is h past a p l) ∙ twice (was_snooped past p l)
-      where
-        twice : (b : Bool) → not (not b) ≡ b
-        twice true = refl
-        twice false = refl
 
     -- the reply of the granted read
     pub reply-look : (g : Option Grant) (memory : Line) → GrantStands h past l g → memory ≡ memory_of past l → is_read x.chan ≡ true → reply_kept g memory ≡ reply_of past x

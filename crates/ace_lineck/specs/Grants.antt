@@ -34,6 +34,11 @@ stage_of past p l = stage_by past p (was_snooped past p l) (answer_of past p l)
 abbrev pub stage_at : List Stage → ℕ → Stage
 stage_at stages p = unwrap_or (slice_get stages p) Unsnooped
 
+-- the same, of a line without a grant nothing
+abbrev pub stage_under : Option Grant → ℕ → Stage
+stage_under None p = Unsnooped
+stage_under (Some g) p = stage_at g.stages p
+
 -- the port that answered with PassDirty under the grant of the line, and its copy at that answer
 abbrev pub passed_by : Header → Trace → ℕ → Option Passed
 passed_by h past l =

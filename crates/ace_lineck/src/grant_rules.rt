@@ -24,7 +24,7 @@ use ace_model::kinds::is_ace;
 use ace_tables::is_invalid;
 
 #[inline(always)]
-fn is_unsnooped(stage: Stage) -> bool
+pub fn is_unsnooped(stage: Stage) -> bool
     ensures { result ≡ is_unsnooped stage }
 {
     matches!(stage, Stage::Unsnooped)

@@ -13,6 +13,7 @@ mod loads;
 mod looks;
 mod memory_writes;
 mod opening_memory;
+mod port_looks;
 mod read_data;
 mod record;
 mod replies;

@@ -2,13 +2,11 @@
 //! what that waits for, told without a rule: what can't come as long as it waits need not be asked
 //! for.
 
-ghost use Rattle.std.specs.Prelude.{◌≡◌, ◌≤◌, ℕ, false, not, length};
+ghost use Rattle.std.specs.Prelude.{◌≡◌, ◌≤◌, ℕ, false, length};
 ghost use Rattle.std.specs.List.{list_any};
 ghost use Rattle.ace_model.specs.Grants.{ports_below};
 ghost use Rattle.ace_model.specs.Transactions.{is_ace};
-ghost use Rattle.ace_model.specs.Trace.{is_some_and};
 ghost use Rattle.ace_lineck.specs.Grants.{stage_at};
-ghost use Rattle.ace_lineck.specs.Kept.{is_unsnooped};
 ghost use Rattle.ace_lineck.specs.Waiting.{is_owing, is_owing_under, is_unsnooped_at, may_snoop_more};
 
 use crate::LineCheck;
@@ -28,17 +26,6 @@ fn is_owing(stage: Stage) -> bool
     ensures { result ≡ is_owing stage }
 {
     matches!(stage, Stage::Unanswered | Stage::Sending)
-}
-
-/// There is a granted transaction, and the port was snooped for it.
-fn was_snooped_under(grant: &Option<Grant>, port: u8) -> bool
-    ensures { result
-        ≡ is_some_and grant.now (λ g. not (is_unsnooped (stage_at g.stages port))) }
-{
-    match grant {
-        None => false,
-        Some(g) => !matches!(stage_at(&g.stages, port), Stage::Unsnooped),
-    }
 }
 
 /// Some port was snooped, and its answer isn't whole. It is asked of all ports at once, as none
@@ -111,7 +98,7 @@ fn may_snoop_more(grant: &Option<Grant>, header: &Header) -> bool
 impl LineCheck {
     ghost use Rattle.std.specs.Prelude.{◌≡◌, ◌&&◌, ℕ, true, not, Some};
     ghost use Rattle.ace_model.specs.declared.transactions.Transaction.{Transaction as Issued};
-    ghost use Rattle.ace_model.specs.Grants.{granted, has_passed_data, has_sharer, was_snooped};
+    ghost use Rattle.ace_model.specs.Grants.{granted, has_passed_data, has_sharer};
     ghost use Rattle.ace_model.specs.Kinds.{is_read_not_shared_dirty, takes_passed_data};
     ghost use Rattle.ace_model.specs.ReadRules.{must_be_shared};
     ghost use Rattle.ace_model.specs.Replies.{passed_data, reply_of};
@@ -130,15 +117,6 @@ impl LineCheck {
             ≡ is_some_and (granted r.header r.past line) (has_passed_data r.header r.past) }
     {
         has_passed_under(&self.record(place).grant)
-    }
-
-    /// Whether the port was snooped for the transaction that is granted on the line.
-    pub fn was_snooped(&self, place: Option<usize>, port: u8) -> bool
-        ensures { (r : Recording) (line : ℕ) (x : Issued) → Stands self.now r
-            → place ≡ place_on self.now (Some line)
-            → granted r.header r.past line ≡ Some x → result ≡ was_snooped r.past port line }
-    {
-        was_snooped_under(&self.record(place).grant, port)
     }
 
     /// Whether an answer under the grant of the line has IsShared.

@@ -132,6 +132,16 @@ impl LineRecord {
         state_at(&self.states, port)
     }
 
+    /// The port's copy.
+    pub fn copy(&self, port: u8) -> Line
+        ensures { result ≡ (holder_at self.now.holders.items port).copy }
+    {
+        match self.holders.get(usize::from(port)) {
+            None => ZERO_LINE,
+            Some(holder) => holder.copy,
+        }
+    }
+
     /// Word k of the port's copy.
     #[inline(always)]
     pub fn copied_word(&self, port: u8, k: u8) -> u128

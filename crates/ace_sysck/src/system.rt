@@ -35,7 +35,8 @@ impl SysCheck {
     ghost use Rattle.ace_event.specs.Ports.{IsHeader};
     ghost use Rattle.ace_event.specs.declared.event.Channel.TheVariants.{Read};
     ghost use Rattle.ace_model.specs.declared.transactions.Transaction.{Transaction};
-    ghost use Rattle.ace_model.specs.Exclusives.{has_failed};
+    ghost use Rattle.ace_model.specs.Exclusives.{has_failed, is_registered};
+    ghost use Rattle.ace_model.specs.Monitors.{is_monitored};
     ghost use Rattle.ace_model.specs.ReadRules.{is_exclusive_okay};
     ghost use Rattle.ace_model.specs.Transactions.{is_ace, outstanding};
     ghost use Rattle.ace_portck.specs.Targets.{Recording, after};
@@ -164,5 +165,20 @@ impl SysCheck {
         ensures { (r : Recording) → Stands self.now r → result ≡ is_exclusive_okay r.past read.now }
     {
         is_okay(read, self.results.passed(read.port, read.id))
+    }
+
+    /// Whether the port is registered for the line at the monitor of the interconnect.
+    pub fn is_registered(&self, port: u8, line: u32) -> bool
+        ensures { (r : Recording) → Stands self.now r → result ≡ is_registered r.past port line }
+    {
+        self.registrations.is_registered(port, line)
+    }
+
+    /// Whether the port's own monitor is set for the line.
+    pub fn is_monitored(&self, port: u8, line: u32) -> bool
+        ensures { (r : Recording) → Stands self.now r
+            → result ≡ is_monitored r.header r.past port line }
+    {
+        self.monitors.lets_store(port, line, true)
     }
 }

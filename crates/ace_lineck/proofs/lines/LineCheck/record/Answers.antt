@@ -1,5 +1,4 @@
-use Rattle.std.proofs.Common.{◌≡◌, ℕ, Some, slice_get, sym, ap, ◌∙◌}
-use Rattle.ace_lineck.proofs.Terms.{values}
+use Rattle.std.proofs.Common.{sym, ◌∙◌}
 use Rattle.ace_lineck.proofs.Places.{no-place, at-place}
 use Rattle.ace_lineck.proofs.lines.LineCheck.record.Goals as goal
 
