@@ -22,3 +22,5 @@ pub mod Hearing
 pub mod Kept
 -- The next transfer of a read.
 pub mod Transfers
+-- Lines whose granted transactions are held up.
+pub mod HeldUp

@@ -16,12 +16,15 @@ use Rattle.ace_portck.specs.Targets.{progress_of}
 use Rattle.ace_lineck.specs.Stands.{place_on}
 use Rattle.ace_check.specs.Shares.{SharesStand}
 use Rattle.ace_home.specs.declared.home.Home.{Home}
+use Rattle.ace_home.specs.Marks.{IsAsMarked, mark_of}
+use Rattle.ace_home.specs.declared.marks.Mark.{Mark}
 
--- It keeps what the rules ask of the trace, and the header.
+-- It keeps what the rules ask of the trace, and the header, and each line is as it is marked.
 pub record HomeStands (s : Home) (plan : Plan) (past : Trace) : Type 0 where
   pub legal : IsLegal plan past
   pub shares : SharesStand s.shares plan.header past
   pub header : s.header ≡ plan.header
+  pub marks : (l : ℕ) (m : Mark) → mark_of s.marks l ≡ Some m → IsAsMarked plan.header past l m
 
 -- the transaction is an outstanding one of the port
 abbrev pub IsOf : Header → Trace → ℕ → Transaction → Type 0

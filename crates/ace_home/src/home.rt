@@ -17,6 +17,8 @@ use crate::candidates::snoop_for;
 use crate::due::{Due, put_sooner};
 use crate::least::goes_behind;
 use crate::line_engine::LineEngine;
+use crate::marking::moved_line;
+use crate::marks::MarkedLines;
 use crate::service::Service;
 use ace_check::Shares;
 use ace_engine::{Burst, Engine};
@@ -33,6 +35,7 @@ use std::alloc::Global;
 pub struct Home {
     pub(crate) shares: Shares,
     pub(crate) header: Header,
+    pub(crate) marks: MarkedLines,
 }
 
 impl Home {
@@ -49,7 +52,11 @@ impl Home {
         let Ok(shares) = Shares::new(alloc, header) else {
             return Err(NoMemory);
         };
-        Ok(Home { shares, header })
+        Ok(Home {
+            shares,
+            header,
+            marks: MarkedLines::none(),
+        })
     }
 
     /// What memory has of the line; a line that was never written has zeros.
@@ -146,7 +153,9 @@ impl Home {
         ensures { (plan : Plan) (past : Trace) → HomeStands self.old plan past → IsLegal plan (event.now ∷ past)
             → HomeStands self.new plan (event.now ∷ past) }
     {
+        let line = moved_line(event, self.shares.ports());
         self.shares.hear(event);
+        self.renew(event, line);
     }
 
     /// Hears the event, and puts it in the burst, if that isn't full.

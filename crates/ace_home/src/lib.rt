@@ -8,6 +8,8 @@ mod home;
 pub mod laws;
 mod least;
 mod line_engine;
+mod marking;
+mod marks;
 mod queues;
 mod service;
 

@@ -1,0 +1,175 @@
+-- Lines whose granted transactions are held up: how long they stay so, and that no step may be taken for a transaction of one.
+use Rattle.std.proofs.Common.{◌≡◌, ◌⊎◌, ℕ, ◌<◌, ◌/◌, Bool, true, false, not, ◌&&◌, ◌==◌, ◌∷◌, length, replicate, Option, Some, None, is_some, option_map, option_and_then, if◌then◌else◌, refl, sym, ap, ◌∙◌, inl, inr, arith}
+use Rattle.std.specs.List.{list_any}
+use Rattle.std.proofs.lemmas.Bool.{and_from, and_parts, cases_Bool, cases_eq, eq-eqb, false_from_ne_true}
+use Rattle.std.proofs.Math.Nat.{mod-lt}
+use Rattle.std.proofs.lemmas.List.{get_or-replicate}
+use Rattle.std.proofs.lemmas.Option.{unwrap_or-slice_get}
+use Rattle.ace_event.specs.declared.event.Channel.{Channel}
+use Rattle.ace_event.specs.declared.event.Channel.TheVariants.{Read, Write}
+use Rattle.ace_event.specs.declared.event.Event.{Event}
+use Rattle.ace_event.specs.declared.event.Event.TheVariants.{Ac, B, Cd, Cr, G, M, R, Rk, Wk}
+use Rattle.ace_event.specs.declared.line.Line.{Line}
+use Rattle.ace_codes.specs.declared.state.LineState.{LineState}
+use Rattle.ace_event.specs.declared.header.Header.{Header}
+use Rattle.ace_model.specs.declared.transactions.Transaction.{Transaction}
+use Rattle.ace_model.specs.Accepted.{IsAccepted}
+use Rattle.ace_model.specs.Grants.{granted, has_grant, ports_below}
+use Rattle.ace_model.specs.Trace.{Trace}
+use Rattle.ace_model.specs.Snoops.{snoops_a_line}
+use Rattle.ace_model.specs.Transactions.{ended, is_line, transfers}
+use Rattle.ace_model.specs.declared.snoops.Snoop.{Snoop}
+use Rattle.ace_portck.specs.declared.target.Progress.{Progress}
+use Rattle.ace_portck.specs.Targets.{line_in, line_of, line_of_snoop, snoop_in}
+use Rattle.ace_lineck.proofs.GrantFrame.{grant_stays}
+use Rattle.ace_lineck.proofs.GrantSteps.{calm-granted, is_calm, serves}
+use Rattle.ace_lineck.specs.declared.grant.Grant.{Grant}
+use Rattle.ace_lineck.specs.Grants.{GrantStands}
+use Rattle.ace_lineck.specs.Waiting.{has_unsnooped, is_answering, is_owed_by}
+use Rattle.ace_lineck.proofs.LineLooks.{passed-look}
+use Rattle.ace_lineck.proofs.WaitingLooks.{answering-law, unsnooped-law}
+use Rattle.ace_model.proofs.General.Options.{Some-injective}
+use Rattle.ace_runs.specs.Bursts.{is_kept}
+use Rattle.ace_home.specs.declared.marks.Mark.{Mark}
+use Rattle.ace_home.specs.declared.marks.Mark.TheVariants.{HeldUp, Snooped}
+use Rattle.ace_home.specs.declared.marks.Marked.{Marked}
+use Rattle.ace_home.specs.Among.{PortSets}
+use Rattle.ace_home.specs.Marks.{IsAsMarked, IsHeldUp, IsStill, mark_of, slot_of}
+use Rattle.ace_home.specs.Home.{IsOf, grant_of}
+use Rattle.ace_home.specs.Services.{TakesNoneBelow, all_steps}
+use Rattle.ace_home.proofs.Among.{fewer-snoops}
+use Rattle.ace_home.proofs.FirstEvents.{grant-had, grant-not-kept, passed-is, read-no-write, snoop-over, transfer-held, without-passed, write-held, write-no-passed, write-no-transfer}
+use Rattle.ace_home.proofs.Firsts.{takes-none, ungranted-takes-none}
+use Rattle.ace_home.proofs.Waiting.{kept-free}
+
+-- ---- lines that are remembered -----------------------------------------------------------------------
+
+-- at first there is none
+pub none-remembered : (l : ℕ) → mark_of (record { lines = replicate 1024 None }) l ≡ None
+none-remembered l =
+    let low : slot_of l < 1024 = mod-lt (l / 64) (omega arith) in
+    ap (option_and_then (λ (k : Marked). if k.line == l then Some k.mark else None)) (unwrap_or-slice_get (replicate 1024 None) (slot_of l) None ∙ get_or-replicate 1024 (slot_of l) None None low)
+
+pub some-marked : (o : Option Mark) → is_some o ≡ true → (m : Mark) × (o ≡ Some m)
+some-marked None t = cc
+some-marked (Some m) t = (m, refl)
+
+-- ---- which lines an event may move -------------------------------------------------------------------
+
+-- what stands under the grant of another line than the event's stays
+pub still-off : (h : Header) (past : Trace) (e : Event) (l : ℕ) (line : Option ℕ) → IsAccepted h (e ∷ past) → (line_in h past e ≡ Some l → line ≡ Some l)
+    → (line ≡ Some l → ⊥) → IsStill h past e l
+still-off h past e l line a on off = λ g stands. grant_stays h past e a l g (λ here. off (on here)) stands
+
+-- It is none of the kinds that may move what stands under a grant.
+pub record IsCalm (e : Event) : Type 0 where
+  pub read : (p i resp : ℕ) (last : Bool) (word : ℕ) → e ≡ R p i resp last word → ⊥
+  pub read_end : (p : ℕ) (st : LineState) → e ≡ Rk p st → ⊥
+  pub response : (p i resp : ℕ) → e ≡ B p i resp → ⊥
+  pub write_end : (p : ℕ) (st : LineState) → e ≡ Wk p st → ⊥
+  pub snoop : (p addr snoop : ℕ) → e ≡ Ac p addr snoop → ⊥
+  pub answer : (p resp : ℕ) (st : LineState) → e ≡ Cr p resp st → ⊥
+  pub sent : (p : ℕ) (last : Bool) (word : ℕ) → e ≡ Cd p last word → ⊥
+  pub grant : (p : ℕ) (c : Channel) (i : ℕ) → e ≡ G p c i → ⊥
+  pub memory : (p : ℕ) (c : Channel) (i : ℕ) (line : Line) → e ≡ M p c i line → ⊥
+
+calm-is : (e : Event) → IsCalm e → is_calm e ≡ true
+calm-is (Ac p addr snoop) calm = absurd (calm.snoop p addr snoop refl)
+calm-is (Cr p resp st) calm = absurd (calm.answer p resp st refl)
+calm-is (Cd p last word) calm = absurd (calm.sent p last word refl)
+calm-is (G p c i) calm = absurd (calm.grant p c i refl)
+calm-is e calm = refl
+
+calm-idle : (e : Event) → IsCalm e → serves e ≡ false
+calm-idle (R p i resp last word) calm = absurd (calm.read p i resp last word refl)
+calm-idle (M p c i line) calm = absurd (calm.memory p c i line refl)
+calm-idle e calm = refl
+
+calm-ends : (h : Header) (past : Trace) (e : Event) → IsCalm e → ended h past e ≡ None
+calm-ends h past (Rk p st) calm = absurd (calm.read_end p st refl)
+calm-ends h past (Wk p st) calm = absurd (calm.write_end p st refl)
+calm-ends h past (R p i resp last word) calm = absurd (calm.read p i resp last word refl)
+calm-ends h past (B p i resp) calm = absurd (calm.response p i resp refl)
+calm-ends h past e calm = refl
+
+-- and so it does with an event of another kind
+pub still-calm : (h : Header) (past : Trace) (e : Event) (l : ℕ) → IsAccepted h (e ∷ past) → IsCalm e → IsStill h past e l
+still-calm h past e l a calm = λ g stands. calm-granted h past e l g a (calm-is e calm) (calm-idle e calm) (calm-ends h past e calm) stands
+
+pub on-transaction : (o : Option Progress) (l : ℕ) → line_of o ≡ Some l → option_map (λ (v : Progress). v.transaction.addr) o ≡ Some l
+on-transaction None l on = cc
+on-transaction (Some x) l on = elim (cases_Bool (is_line x.transaction)) [ inl t ↦ rw t at on | inr f ↦ let bad : None ≡ Some l = rw f at on in cc ]
+
+pub on-snoop : (o : Option Snoop) (l : ℕ) → line_of_snoop o ≡ Some l → option_map (λ (s : Snoop). s.addr) o ≡ Some l
+on-snoop None l on = cc
+on-snoop (Some s) l on = elim (cases_Bool (snoops_a_line s.snoop)) [ inl t ↦ rw t at on | inr f ↦ let bad : None ≡ Some l = rw f at on in cc ]
+
+pub on-address : (h : Header) (past : Trace) (p addr snoop l : ℕ) → line_in h past (Ac p addr snoop) ≡ Some l → Some addr ≡ Some l
+on-address h past p addr snoop l on =
+    let s : Snoop = record { place = length past; addr = addr; snoop = snoop } in
+    let own : snoop_in past (Ac p addr snoop) ≡ Some s = rw (eq-eqb p p refl) refl in
+    on-snoop (Some s) l (sym (ap line_of_snoop own) ∙ on)
+
+-- it is this line or isn't
+pub line-or-not : (o : Option ℕ) (l : ℕ) → (o ≡ Some l) ⊎ (o ≡ Some l → ⊥)
+line-or-not None l = inr (λ is. cc)
+line-or-not (Some k) l = elim (cases_eq k l) [
+  | inl same ↦ inl (ap Some same)
+  | inr other ↦ inr (λ is. other (Some-injective k l is))
+]
+
+-- ---- how long a line is held up ----------------------------------------------------------------------
+
+-- it stays so with an event that leaves what stands under the grant
+pub held-stays : (h : Header) (past : Trace) (e : Event) (l : ℕ) (g : Option Grant) → IsAccepted h (e ∷ past) → GrantStands h past l g → GrantStands h (e ∷ past) l g
+    → IsHeldUp h past l → IsHeldUp h (e ∷ past) l
+held-stays h past e l g a before after held = record {
+  answering = sym (answering-law h (e ∷ past) a l g after) ∙ answering-law h past a.0 l g before ∙ held.answering;
+  snooped = sym (unsnooped-law h (e ∷ past) a l g after) ∙ unsnooped-law h past a.0 l g before ∙ held.snooped;
+  clean = sym (passed-look h (e ∷ past) a l g after) ∙ passed-look h past a.0 l g before ∙ held.clean;
+}
+
+-- and each line stays as it is marked
+pub marked-stays : (h : Header) (past : Trace) (e : Event) (l : ℕ) (g : Option Grant) (m : Mark) → IsAccepted h (e ∷ past) → GrantStands h past l g → GrantStands h (e ∷ past) l g
+    → IsAsMarked h past l m → IsAsMarked h (e ∷ past) l m
+marked-stays h past e l g HeldUp a before after held = held-stays h past e l g a before after held
+marked-stays h past e l g Snooped a before after snooped = sym (unsnooped-law h (e ∷ past) a l g after) ∙ unsnooped-law h past a.0 l g before ∙ snooped
+
+-- with any mark no port is left to snoop
+pub marked-snooped : (h : Header) (past : Trace) (l : ℕ) (m : Mark) → IsAsMarked h past l m → has_unsnooped h past l ≡ false
+marked-snooped h past l HeldUp held = held.snooped
+marked-snooped h past l Snooped snooped = snooped
+
+-- and an answer to a snoop leaves that as it is
+pub answer-snooped : (h : Header) (past : Trace) (p resp : ℕ) (st : LineState) (l : ℕ) → has_unsnooped h (Cr p resp st ∷ past) l ≡ has_unsnooped h past l
+answer-snooped h past p resp st l = refl
+
+pub data-snooped : (h : Header) (past : Trace) (p : ℕ) (last : Bool) (word l : ℕ) → has_unsnooped h (Cd p last word ∷ past) l ≡ has_unsnooped h past l
+data-snooped h past p last word l = refl
+
+module _ (among : PortSets) (h : Header) (past : Trace) (a : IsAccepted h past) (p : ℕ) (x : Transaction) (o : IsOf h past p x) (held : IsHeldUp h past x.addr) where
+  -- the line is granted
+  not-free : granted h past x.addr ≡ None → ⊥
+  not-free free =
+      let some = (and_parts (is_some (granted h past x.addr)) (list_any (is_owed_by past x.addr) (ports_below h.ports)) held.answering).0 in
+      let bad : false ≡ true = sym (ap (λ v. is_some v) free) ∙ some in cc
+
+  -- no step may be taken for a transaction of it that may not begin
+  pub held-takes-none : (n : ℕ) → (x.chan ≡ Read → n ≡ transfers past x.port x.id) → ((n == 0) && not x.lock) ≡ true → TakesNoneBelow among all_steps h past x
+  held-takes-none n count fresh = elim (cases_Bool (has_grant past x.port x.chan x.id)) [
+    | inr none ↦ ungranted-takes-none among h past x a p o none
+        (grant-not-kept h past a p x o (false_from_ne_true (is_kept h past (grant_of x)) (λ kept. not-free (kept-free h past a p x o kept))))
+    | inl had ↦ by x.chan refl had
+  ]
+    where
+      waits : ((n == 0) && not x.lock && is_answering h past x.addr) ≡ true
+      waits = and_from _ _ fresh held.answering
+
+      by : (c : Channel) → x.chan ≡ c → has_grant past x.port x.chan x.id ≡ true → TakesNoneBelow among all_steps h past x
+      by Read chan had =
+          takes-none among h past x (grant-had h past a p x o had) (fewer-snoops among h past x (snoop-over h past a p x o held.snooped))
+          (without-passed h past a p x o (sym (passed-is h past a p x o had) ∙ held.clean)) (transfer-held h past a p x o chan had n (count chan) waits)
+          (read-no-write h past a p x o chan)
+      by Write chan had =
+          takes-none among h past x (grant-had h past a p x o had) (fewer-snoops among h past x (snoop-over h past a p x o held.snooped))
+          (write-no-passed h past a p x o chan) (write-no-transfer h past a p x o chan) (write-held h past a p x o chan had n waits)
