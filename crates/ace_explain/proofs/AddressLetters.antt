@@ -1,11 +1,10 @@
 -- The clauses of K1 to K10 that are named.
-use Rattle.std.proofs.Common.{◌≡◌, ℕ, ◌+◌, ◌<◌, ◌≤◌, max, Bool, true, false, nat_lt, not, ◌&&◌, ◌==◌, if◌then◌else◌, [], ◌∷◌, length, Option, Some, None, is_some, refl, sym, ap, ◌∙◌, arith}
+use Rattle.std.proofs.Common.{◌≡◌, ℕ, ◌+◌, ◌≤◌, max, Bool, true, false, nat_lt, ◌&&◌, ◌==◌, if◌then◌else◌, [], ◌∷◌, length, Option, Some, None, is_some, refl, sym, ◌∙◌, arith}
 use Rattle.std.specs.List.{list_all}
 use Rattle.std.proofs.lemmas.Bool.{and_parts, and_from, ltb-true, lt-ltb, false_from_ne_true}
 use Rattle.ace_event.specs.declared.event.Event.{Event}
 use Rattle.ace_event.specs.declared.event.Event.TheVariants.{Ar, Aw, R, B, Cr, Ac, Mem}
 use Rattle.ace_event.specs.declared.line.Line.{Line}
-use Rattle.ace_event.specs.declared.header.Header.{Header}
 use Rattle.ace_codes.specs.Reads.{ar_kind_of}
 use Rattle.ace_codes.specs.Snoops.{ac_kind_of}
 use Rattle.ace_codes.specs.Writes.{aw_kind_of}

@@ -1,5 +1,5 @@
 -- The clauses of K9 that are named of the half of a barrier, by what is kept of the port's newest barrier.
-use Rattle.std.proofs.Common.{◌≡◌, ℕ, ◌+◌, Bool, true, false, not, ◌&&◌, ◌||◌, ◌==◌, nat_le, if◌then◌else◌, List, [], ◌∷◌, ◌++◌, length, take, Option, Some, None, is_some, is_none, refl, sym, ap, ◌∙◌, arith, inl, inr, length-append}
+use Rattle.std.proofs.Common.{◌≡◌, ℕ, ◌+◌, Bool, true, false, ◌&&◌, ◌||◌, ◌==◌, nat_le, List, [], ◌∷◌, ◌++◌, length, take, Option, Some, None, refl, sym, ap, ◌∙◌, arith, inl, inr, length-append}
 use Rattle.std.specs.List.{All, list_all}
 use Rattle.std.proofs.lemmas.Bool.{cases_Bool, le-leb, lt-leb, and_right}
 use Rattle.std.proofs.lemmas.List.{append-nil, take_at, take_all}
@@ -12,7 +12,7 @@ use Rattle.ace_event.specs.declared.event.Channel.{Channel}
 use Rattle.ace_event.specs.declared.event.Channel.TheVariants.{Read, Write}
 use Rattle.ace_event.specs.declared.event.Event.{Event}
 use Rattle.ace_model.specs.declared.transactions.Transaction.{Transaction}
-use Rattle.ace_model.specs.Trace.{Trace, at_point}
+use Rattle.ace_model.specs.Trace.{Trace}
 use Rattle.ace_model.specs.Kinds.{is_read_barrier}
 use Rattle.ace_model.specs.Progress.{is_completed}
 use Rattle.ace_model.specs.Transactions.{is_read, issued, read_kind, write_kind}
@@ -21,10 +21,9 @@ use Rattle.ace_model.specs.Messages.{is_message_part, is_dvm_completion}
 use Rattle.ace_model.proofs.Trace.Growth.{at_point-end}
 use Rattle.ace_model.proofs.Trace.Issued.{issued-place}
 use Rattle.ace_portck.specs.Targets.{Recording}
-use Rattle.ace_sysck.specs.declared.barriers.Barrier.{Barrier}
 use Rattle.ace_sysck.specs.declared.barriers.Barrier.TheVariants.{Idle, ReadHalf, WriteHalf, Open}
 use Rattle.ace_sysck.specs.declared.barriers.OpenPair.{OpenPair}
-use Rattle.ace_sysck.specs.Barriers.{BarrierStands, IsDone, reads_of, writes_of, pair_in}
+use Rattle.ace_sysck.specs.Barriers.{BarrierStands, IsDone, pair_in}
 use Rattle.ace_sysck.proofs.BarrierRules.{pairs-of, count-reads, count-writes}
 use Rattle.ace_clauses.specs.AddressClauses.{has_whole_pairs, has_answered_pairs, fits_partner}
 use Rattle.ace_clauses.specs.declared.letters.Letter.TheVariants as letter
@@ -41,9 +40,10 @@ module _ (past : Trace) (p n : ℕ) (done rest : List Pair) (all : All (IsDone p
   -- all were issued, and all are complete
   as_many : n ≡ length done → (nat_le n (length (pairs past p)) ≡ true) × (list_all (is_pair_complete past) (take n (pairs past p)) ≡ true)
   as_many count =
-      let long = length-append done rest in
-      (rw is (le-leb n (length (done ++ rest)) (omega arith)),
-      rw is (ap (list_all (is_pair_complete past)) (take_at done rest n (sym count)) ∙ all_complete past p done all))
+      let long = length-append done rest in (
+        rw is (le-leb n (length (done ++ rest)) (omega arith)),
+        rw is (ap (list_all (is_pair_complete past)) (take_at done rest n (sym count)) ∙ all_complete past p done all),
+      )
 
   -- one more than there are was not
   too_many : rest ≡ [] → n ≡ length done + 1 → nat_le n (length (pairs past p)) ≡ false
@@ -53,11 +53,12 @@ module _ (past : Trace) (p n : ℕ) (done rest : List Pair) (all : All (IsDone p
   one_open : (b : Pair) → rest ≡ b ∷ [] → is_pair_complete past b ≡ false → n ≡ length done + 1
       → (nat_le n (length (pairs past p)) ≡ true) × (list_all (is_pair_complete past) (take n (pairs past p)) ≡ false)
   one_open b one open_still count =
-      let long = length-append done (b ∷ []) in
-      (rw (is, one) (le-leb n (length (done ++ b ∷ [])) (omega arith)),
-      rw (is, one) (ap (list_all (is_pair_complete past)) (take_all n (done ++ b ∷ []) (omega arith))
-      ∙ list_all-append (is_pair_complete past) done (b ∷ [])
-      ∙ and_right (list_all (is_pair_complete past) done) (list_all (is_pair_complete past) (b ∷ [])) (ap (λ v. v && true) open_still)))
+      let long = length-append done (b ∷ []) in (
+        rw (is, one) (le-leb n (length (done ++ b ∷ [])) (omega arith)),
+        rw (is, one) (ap (list_all (is_pair_complete past)) (take_all n (done ++ b ∷ []) (omega arith))
+            ∙ list_all-append (is_pair_complete past) done (b ∷ [])
+            ∙ and_right (list_all (is_pair_complete past) done) (list_all (is_pair_complete past) (b ∷ [])) (ap (λ v. v && true) open_still)),
+      )
 
 -- a half of a barrier is no part of a message and no completion
 half_is_no_dvm : (x : Transaction) → is_barrier_half x ≡ true → (is_message_part x ≡ false) × (is_dvm_completion x ≡ false)
@@ -141,7 +142,7 @@ module _ (r : Recording) (e : Event) (x : Transaction) (is : issued (length r.pa
     pub after_open : (b : OpenPair) → BarrierStands r.past x.port (Open b) → Names r e 9 letter.C
     after_open b s =
         let open_still : is_pair_complete r.past (pair_in b) ≡ false =
-            ap (λ v. v && is_completed r.past b.write) s.under_way.read ∙ ap (λ v. b.read_answered && v) s.under_way.write ∙ s.under_way.open_still in
+        ap (λ v. v && is_completed r.past b.write) s.under_way.read ∙ ap (λ v. b.read_answered && v) s.under_way.write ∙ s.under_way.open_still in
         by_channel x.chan refl
         (λ on. let n = count Read on in let c = count-reads r.past x.port (Open b) s in
         unanswered (one_open r.past x.port (number_of r.past x) s.done (pair_in b ∷ []) s.are_done (pairs-of r.past x.port (Open b) s) (pair_in b) refl open_still (omega arith)))

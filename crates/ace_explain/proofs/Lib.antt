@@ -5,3 +5,5 @@ pub mod AddressLetters
 pub mod BarrierLetters
 pub mod PartLetters
 pub mod SnoopLetters
+-- The clause of a rule by its number.
+pub mod AtRule

@@ -42,11 +42,21 @@ pub(crate) fn clause_of_k2(event: &Event) -> Letter
     ensures { (r : Recording) → Names r event.now 2 result }
 {
     match *event {
-        Event::Ar { snoop, dom, bar, .. } => match read_ar(snoop, dom, bar) {
+        Event::Ar {
+            snoop,
+            dom,
+            bar,
+            ..
+        } => match read_ar(snoop, dom, bar) {
             None => Letter::A,
             Some(_) => Letter::B,
         },
-        Event::Aw { snoop, dom, bar, .. } => match read_aw(snoop, dom, bar) {
+        Event::Aw {
+            snoop,
+            dom,
+            bar,
+            ..
+        } => match read_aw(snoop, dom, bar) {
             None => Letter::A,
             Some(_) => Letter::B,
         },
@@ -69,13 +79,7 @@ fn clause_of_mem(ports: &PortCheck, addr: u32) -> Letter
     }
     match ports.opening() {
         OpeningMemory::Empty => Letter::E,
-        OpeningMemory::Opened(last) => {
-            if last < addr {
-                Letter::E
-            } else {
-                Letter::D
-            }
-        }
+        OpeningMemory::Opened(last) => { if last < addr { Letter::E } else { Letter::D } }
         OpeningMemory::Closed => Letter::C,
     }
 }
@@ -113,7 +117,12 @@ pub(crate) fn clause_of_k10(event: &Event) -> Letter
     ensures { (r : Recording) → Names r event.now 10 result }
 {
     match *event {
-        Event::Aw { snoop, dom, bar, .. } => match read_aw(snoop, dom, bar) {
+        Event::Aw {
+            snoop,
+            dom,
+            bar,
+            ..
+        } => match read_aw(snoop, dom, bar) {
             Some(kind) if is_unique_write(kind) => Letter::B,
             _ => Letter::A,
         },

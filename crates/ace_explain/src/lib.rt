@@ -3,4 +3,7 @@
 #![tactic(auto)]
 
 mod address_clauses;
+mod clauses;
 mod snoop_clauses;
+
+pub use clauses::clause;

@@ -41,7 +41,10 @@ pub(crate) fn clause_of_k11(ports: &PortCheck, event: &Event) -> Letter
 {
     match *event {
         Event::W {
-            port, strb, last, ..
+            port,
+            strb,
+            last,
+            ..
         } => clause_of_w(ports, port, strb, last),
         _ => Letter::A,
     }
@@ -70,7 +73,6 @@ pub(crate) fn clause_of_k12(ports: &PortCheck, event: &Event) -> Letter
         _ => Letter::A,
     }
 }
-
 
 /// The transaction has had its first R or, if it is a write, its M.
 fn has_begun(x: &Progress) -> bool

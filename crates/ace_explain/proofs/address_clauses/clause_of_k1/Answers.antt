@@ -1,4 +1,4 @@
-use Rattle.std.proofs.Common.{◌≡◌, true, nat_lt, sym, ap, ◌∙◌}
+use Rattle.std.proofs.Common.{nat_lt, sym, ap, ◌∙◌}
 use Rattle.std.proofs.lemmas.Bool.{lt-ltb}
 use Rattle.ace_event.specs.declared.header.Header.{Header}
 use Rattle.ace_explain.proofs.AddressLetters.{ace_lite_port}

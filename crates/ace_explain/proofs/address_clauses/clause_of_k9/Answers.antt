@@ -1,5 +1,4 @@
-use Rattle.std.proofs.Common.{◌≡◌, Some, None, Option, length, sym, ap, subst, ◌∙◌}
-use Rattle.ace_model.specs.declared.transactions.Transaction.{Transaction}
+use Rattle.std.proofs.Common.{sym, ap, ◌∙◌}
 use Rattle.ace_model.specs.Transactions.{issued}
 use Rattle.ace_explain.proofs.PartLetters.{issues_none, of_completion}
 use Rattle.ace_explain.proofs.address_clauses.clause_of_k9.Goals as goal

@@ -1,4 +1,4 @@
-use Rattle.std.proofs.Common.{◌≡◌, true, false, sym, ap, ◌∙◌}
+use Rattle.std.proofs.Common.{sym, ◌∙◌}
 use Rattle.std.proofs.lemmas.Bool.{ne_eqb}
 use Rattle.ace_explain.proofs.SnoopLetters.{second_snoop, hasty_snoop}
 use Rattle.ace_explain.proofs.snoop_clauses.clause_under_grant.Goals as goal

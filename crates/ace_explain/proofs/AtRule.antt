@@ -1,0 +1,34 @@
+-- The clause of a rule by its number.
+use Rattle.std.proofs.Common.{◌≡◌, ℕ, Some, sym, subst}
+use Rattle.ace_event.specs.declared.event.Event.{Event}
+use Rattle.ace_model.specs.Accepted.{least_broken}
+use Rattle.ace_model.specs.AddressRules.{k4, k5, k6, k8}
+use Rattle.ace_model.specs.SnoopRules.{k14}
+use Rattle.ace_portck.specs.Targets.{Recording}
+use Rattle.ace_clauses.specs.Clauses.{clause_of}
+use Rattle.ace_clauses.specs.declared.letters.Letter.{Letter}
+use Rattle.ace_clauses.specs.declared.letters.Letter.TheVariants as letter
+use Rattle.ace_explain.specs.Names.{Names}
+use Rattle.ace_explain.proofs.Broken.{has_clause, last_one}
+
+module _ (r : Recording) (e : Event) where
+  -- the rule has this number
+  pub at_rule : (k n : ℕ) (letter : Letter) → k ≡ n → Names r e n letter → least_broken r.header r.past e ≡ Some k → Some letter ≡ clause_of r.header r.past e k
+  at_rule k n letter is names least =
+      subst (λ m. Some letter ≡ clause_of r.header r.past e m) (sym is) (sym (names (subst (λ m. least_broken r.header r.past e ≡ Some m) is least)))
+
+  -- rules of one clause
+  pub sole_4 : Names r e 4 letter.A
+  sole_4 least = last_one (k4 r.header r.past e) letter.A (has_clause r.header r.past e 4 least)
+
+  pub sole_5 : Names r e 5 letter.A
+  sole_5 least = last_one (k5 r.header r.past e) letter.A (has_clause r.header r.past e 5 least)
+
+  pub sole_6 : Names r e 6 letter.A
+  sole_6 least = last_one (k6 r.header r.past e) letter.A (has_clause r.header r.past e 6 least)
+
+  pub sole_8 : Names r e 8 letter.A
+  sole_8 least = last_one (k8 r.header r.past e) letter.A (has_clause r.header r.past e 8 least)
+
+  pub sole_14 : Names r e 14 letter.A
+  sole_14 least = last_one (k14 r.header r.past e) letter.A (has_clause r.header r.past e 14 least)
