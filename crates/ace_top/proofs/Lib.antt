@@ -1,5 +1,6 @@
 pub mod AcceptedEnd
 pub mod AccountLemmas
+pub mod CarriedOut
 pub mod FrontGiven
 pub mod GenerateLemmas
 pub mod GeneratedRight

@@ -9,16 +9,15 @@ use Rattle.ace_convert.specs.declared.conversion.Conversion.TheVariants.{Show, M
 use Rattle.ace_top.specs.declared.words.Command.{Command}
 use Rattle.ace_top.specs.declared.words.Command.TheVariants as command
 use Rattle.ace_top.specs.declared.words.Command.TheVariants.{Convert}
-use Rattle.ace_top.specs.declared.words.Snooping.{Snooping}
 use Rattle.ace_top.specs.declared.words.Snooping.TheVariants.{AllPorts, KeptPorts}
 use Rattle.ace_top.specs.Answer.{CarriesOut, AnswersWords, BreaksOffWords}
-use Rattle.ace_top.specs.Command.{Names}
+use Rattle.ace_top.specs.Command.{Judges, Names, ReadsInput, ReadsScript, ReadsTrace}
 use Rattle.ace_top.proofs.Parts.{nothing_appended}
 use Rattle.ace_top.specs.declared.answer.Answer.TheVariants.{NoMemory, Usage}
 use Rattle.ace_convert.specs.Output.{AppendsPart}
 use Rattle.ace_top.specs.Output.{AppendsParts}
 use Rattle.ace_top.specs.Texts.{notes_text_of}
-use Rattle.ace_top.specs.Words.{IsCheck, IsAccount, IsSomeAccount, IsConvert, IsRun, IsSomeRun, IsGen, IsNumbered, IsTrial, IsTraceCommand, IsReadingCommand, IsCommand, IsNumber, IsWord, account_word, word_of}
+use Rattle.ace_top.specs.Words.{IsCheck, IsSomeAccount, IsConvert, IsRun, IsSomeRun, IsGen, IsNumbered, IsTrial, IsTraceCommand, IsReadingCommand, IsCommand, IsNumber, IsWord, account_word, word_of}
 
 pub words_carried : (words : List (String Global)) (command : Command) (input left : Option (List ℕ)) (status : ℕ) (out out' notes notes' : Option (List ℕ)) (faults faults' : ℕ)
     → CarriesOut command input left status out out' notes notes' faults faults' → Names words command → status ≢ 5 → AnswersWords words input left status out out' notes notes'
@@ -38,39 +37,6 @@ pub memory_broken : (words : List (String Global)) (input left out out' notes no
     → AppendsPart out out' [] → AppendsParts notes notes' (notes_text_of NoMemory) (codes "write fault\n") → BreaksOffWords words input left out out' notes notes'
 memory_broken words input left out out' notes notes' part parts = inr (inr (nothing_appended out out' part, parts))
 
-pub is_check : (words : List (String Global)) → IsCheck words → IsTraceCommand words
-is_check words n = inl n
-
-pub is_account : (words : List (String Global)) (account : Account) → IsAccount words account → IsSomeAccount words
-is_account words account n = (account, n)
-
-pub is_some_account : (words : List (String Global)) → IsSomeAccount words → IsTraceCommand words
-is_some_account words n = inr (inl n)
-
-pub is_convert : (words : List (String Global)) (conversion : Conversion) → IsConvert words conversion → IsTraceCommand words
-is_convert words conversion n = inr (inr (conversion, n))
-
-pub is_trace_command : (words : List (String Global)) → IsTraceCommand words → IsCommand words
-is_trace_command words n = inl (inl n)
-
-pub reads_trace : (words : List (String Global)) → IsTraceCommand words → IsReadingCommand words
-reads_trace words n = inl n
-
-pub is_run : (words : List (String Global)) (snooping : Snooping) → IsRun words snooping → IsSomeRun words
-is_run words snooping n = (snooping, n)
-
-pub is_some_run : (words : List (String Global)) → IsSomeRun words → IsReadingCommand words
-is_some_run words n = inr n
-
-pub is_reading : (words : List (String Global)) → IsReadingCommand words → IsCommand words
-is_reading words n = inl n
-
-pub is_gen : (words : List (String Global)) (number : ℕ) → IsGen words number → IsCommand words
-is_gen words number n = inr (number, inl n)
-
-pub is_trial : (words : List (String Global)) (number : ℕ) → IsTrial words number → IsCommand words
-is_trial words number n = inr (number, inr n)
-
 -- the word `run` names no trace command
 one_run : (words : List (String Global)) → IsRun words AllPorts → ¬ IsTraceCommand words
 one_run words n (inl one) = absurd cc
@@ -87,7 +53,7 @@ filtered_run words n (inl one) = absurd cc
 filtered_run words n (inr (inl (account, one))) = absurd cc
 filtered_run words n (inr (inr (conversion, one))) = absurd cc
 
-pub runs_no_trace : (words : List (String Global)) → IsSomeRun words → ¬ IsTraceCommand words
+runs_no_trace : (words : List (String Global)) → IsSomeRun words → ¬ IsTraceCommand words
 runs_no_trace words (AllPorts, n) = one_run words n
 runs_no_trace words (KeptPorts, n) = filtered_run words n
 
@@ -96,7 +62,7 @@ first_letter ((letter ∷ text) ∷ words) = letter
 first_letter words = 0
 
 -- the word of a conversion names no command that tells a verdict
-pub converts_no_verdict : (words : List (String Global)) (conversion : Conversion) → IsConvert words conversion → ¬ (IsCheck words ⊎ IsSomeAccount words)
+converts_no_verdict : (words : List (String Global)) (conversion : Conversion) → IsConvert words conversion → ¬ (IsCheck words ⊎ IsSomeAccount words)
 converts_no_verdict words Show n (inl one) = absurd cc
 converts_no_verdict words Show n (inr (Report, one)) = absurd cc
 converts_no_verdict words Show n (inr (Order, one)) = absurd cc
@@ -120,34 +86,62 @@ two_words words text number other (word, are, is) (inr (KeptPorts, one)) =
     let e : text ∷ word ∷ [] ≡ codes "run" ∷ codes "filter" ∷ [] = sym are ∙ one in
     other cc
 
-pub gen_reads_nothing : (words : List (String Global)) (number : ℕ) → IsGen words number → ¬ IsReadingCommand words
+gen_reads_nothing : (words : List (String Global)) (number : ℕ) → IsGen words number → ¬ IsReadingCommand words
 gen_reads_nothing words number n =
     two_words words (codes "gen") number (λ same. let e : ◌≡◌ {A = ℕ} 103 114 = ap (λ text. first_letter (text ∷ [])) same in absurd (omega (arith, e))) n
 
-pub trial_reads_nothing : (words : List (String Global)) (number : ℕ) → IsTrial words number → ¬ IsReadingCommand words
+trial_reads_nothing : (words : List (String Global)) (number : ℕ) → IsTrial words number → ¬ IsReadingCommand words
 trial_reads_nothing words number n =
     two_words words (codes "trial") number (λ same. let e : ◌≡◌ {A = ℕ} 116 114 = ap (λ text. first_letter (text ∷ [])) same in absurd (omega (arith, e))) n
 
-pub ruleset words_answered = (
-  words_carried,
-  words_broken,
-  usage_broken,
-  is_check,
-  is_account,
-  is_some_account,
-  is_convert,
-  is_run,
-  is_some_run,
-  is_trace_command,
-  reads_trace,
-  is_reading,
-  is_gen,
-  is_trial,
-  runs_no_trace,
-  converts_no_verdict,
-  gen_reads_nothing,
-  trial_reads_nothing,
-)
+-- what the words say of the command that they name
+pub is_command : (words : List (String Global)) (command : Command) → Names words command → IsCommand words
+is_command words command.Check n = inl (inl (inl n))
+is_command words (command.Account account) n = inl (inl (inr (inl (account, n))))
+is_command words (Convert conversion) n = inl (inl (inr (inr (conversion, n))))
+is_command words (command.Run snooping) n = inl (inr (snooping, n))
+is_command words (command.Gen number) n = inr (number, inl n)
+is_command words (command.Trial number) n = inr (number, inr n)
+
+pub is_reading_command : (words : List (String Global)) (command : Command) → Names words command → ReadsInput command → IsReadingCommand words
+is_reading_command words command.Check n reads = inl (inl n)
+is_reading_command words (command.Account account) n reads = inl (inr (inl (account, n)))
+is_reading_command words (Convert conversion) n reads = inl (inr (inr (conversion, n)))
+is_reading_command words (command.Run snooping) n reads = inr (snooping, n)
+is_reading_command words (command.Gen number) n (inl reads) = absurd reads
+is_reading_command words (command.Gen number) n (inr reads) = absurd reads
+is_reading_command words (command.Trial number) n (inl reads) = absurd reads
+is_reading_command words (command.Trial number) n (inr reads) = absurd reads
+
+pub reads_trace : (words : List (String Global)) (command : Command) → Names words command → IsTraceCommand words → ReadsTrace command
+reads_trace words command.Check n t = tt
+reads_trace words (command.Account account) n t = tt
+reads_trace words (Convert conversion) n t = tt
+reads_trace words (command.Run snooping) n t = absurd (runs_no_trace words (snooping, n) t)
+reads_trace words (command.Gen number) n t = absurd (gen_reads_nothing words number n (inl t))
+reads_trace words (command.Trial number) n t = absurd (trial_reads_nothing words number n (inl t))
+
+pub reads_script : (words : List (String Global)) (command : Command) → Names words command → IsSomeRun words → ReadsScript command
+reads_script words command.Check n r = absurd (runs_no_trace words r (inl n))
+reads_script words (command.Account account) n r = absurd (runs_no_trace words r (inr (inl (account, n))))
+reads_script words (Convert conversion) n r = absurd (runs_no_trace words r (inr (inr (conversion, n))))
+reads_script words (command.Run snooping) n r = tt
+reads_script words (command.Gen number) n r = absurd (gen_reads_nothing words number n (inr r))
+reads_script words (command.Trial number) n r = absurd (trial_reads_nothing words number n (inr r))
+
+judging_reads : (words : List (String Global)) → IsCheck words ⊎ IsSomeAccount words → IsTraceCommand words
+judging_reads words (inl check) = inl check
+judging_reads words (inr account) = inr (inl account)
+
+pub judges : (words : List (String Global)) (command : Command) → Names words command → IsCheck words ⊎ IsSomeAccount words → Judges command
+judges words command.Check n j = tt
+judges words (command.Account account) n j = tt
+judges words (Convert conversion) n j = absurd (converts_no_verdict words conversion n j)
+judges words (command.Run snooping) n j = absurd (runs_no_trace words (snooping, n) (judging_reads words j))
+judges words (command.Gen number) n j = absurd (gen_reads_nothing words number n (inl (judging_reads words j)))
+judges words (command.Trial number) n j = absurd (trial_reads_nothing words number n (inl (judging_reads words j)))
+
+pub ruleset words_answered = (words_carried, words_broken, usage_broken, is_command, is_reading_command, reads_trace, reads_script, judges)
 
 -- ---- the words that name no command
 

@@ -5,7 +5,8 @@ ghost use Rattle.ace_io.specs.Faults.{Rose};
 ghost use Rattle.ace_grammar.specs.Errors.{LeavesNothing};
 ghost use Rattle.ace_verdict.specs.Verdict.{ReadsSound};
 ghost use Rattle.ace_top.specs.Words.{IsCheck, IsSomeRun, IsSomeAccount, IsTraceCommand, IsReadingCommand, IsCommand};
-ghost use Rattle.ace_top.specs.Answer.{AnswersWords, BreaksOffWords};
+ghost use Rattle.ace_top.specs.Answer.{AnswersWords, BreaksOffWords, CarriesOut, HasStatusCause};
+ghost use Rattle.ace_top.specs.Command.{Judges, ReadsInput, ReadsScript, ReadsTrace};
 ghost use Rattle.ace_top.specs.Output.{AppendsParts};
 
 use crate::answer::Answer;
@@ -71,13 +72,38 @@ pub fn ace<R: Threads + Wait + Sync, S: Source, K: Sink, E: Sink, G: Gate + Sync
         return conclude(out, notes, Answer::NoMemory);
     };
     match command {
-        Some(Command::Check) => tell_verdict(alloc, input, out, notes),
-        Some(Command::Account { account }) => tell_account(alloc, input, out, notes, account),
-        Some(Command::Convert { conversion }) => write_out(alloc, input, out, notes, conversion),
-        Some(Command::Run { snooping }) => run_script(rt, alloc, input, out, notes, gate, snooping),
-        Some(Command::Gen { number }) => write_script(alloc, number, out, notes),
-        Some(Command::Trial { number }) => tell_trial(alloc, number, out, notes),
+        Some(command) => carry_out(rt, alloc, command, input, out, notes, gate),
         None => conclude(out, notes, Answer::Usage),
+    }
+}
+
+/// Carries out the command, and returns the status.
+#[tactic(auto, using(crate::proofs::CarriedOut::carried_out))]
+fn carry_out<R: Threads + Wait + Sync, S: Source, K: Sink, E: Sink, G: Gate + Sync>(
+    rt: &R,
+    alloc: Global,
+    command: Command,
+    input: &mut S,
+    out: &mut K,
+    notes: &mut E,
+    gate: &G,
+) -> u8
+    ensures carried_out { CarriesOut command (S.left input.old) (S.left input.new) result (K.held out.old) (K.held out.new)
+        (E.held notes.old) (E.held notes.new) (E.faults notes.old) (E.faults notes.new) }
+    ensures cause { HasStatusCause result (S.faults input.old) (S.faults input.new)
+        (K.faults out.old) (K.faults out.new) (E.faults notes.old) (E.faults notes.new) }
+    ensures whole { ReadsTrace command → result ≡ 0 → LeavesNothing (S.left input.old) (S.left input.new) }
+    ensures script_whole { ReadsScript command → result ≡ 0 → IsAtEnd (S.left input.new) }
+    ensures sound { Judges command → result ≡ 0 → IfSome (S.left input.old) ReadsSound }
+    ensures untouched { ¬ ReadsInput command → input.new ≡ input.old }
+{
+    match command {
+        Command::Check => tell_verdict(alloc, input, out, notes),
+        Command::Account { account } => tell_account(alloc, input, out, notes, account),
+        Command::Convert { conversion } => write_out(alloc, input, out, notes, conversion),
+        Command::Run { snooping } => run_script(rt, alloc, input, out, notes, gate, snooping),
+        Command::Gen { number } => write_script(alloc, number, out, notes),
+        Command::Trial { number } => tell_trial(alloc, number, out, notes),
     }
 }
 
