@@ -2,5 +2,4 @@ pub mod Checking
 pub mod Lines
 pub mod Peeking
 pub mod Reading
-pub mod Spelling
 pub mod Words

@@ -1,13 +1,12 @@
 -- The first bytes of a source.
-use Rattle.std.proofs.Common.{◌≡◌, ◌≢◌, ◌<◌, ◌≤◌, ◌+◌, ◌-◌, ◌++◌, ℕ, List, [], ◌∷◌, Option, None, Some, Result, Ok, length, min, take, drop, refl, arith, ap, ◌∙◌, sym, subst, append-nil}
+use Rattle.std.proofs.Common.{◌≡◌, ◌<◌, ◌≤◌, ◌+◌, ◌-◌, ◌++◌, ℕ, List, [], ◌∷◌, Option, None, Some, Result, Ok, length, take, drop, arith, sym, subst}
 use Rattle.std.proofs.lemmas.Grind.{common_steps}
-use Rattle.std.proofs.lemmas.List.{append_assoc, drop-drop, length-drop, take_all, take-append-le}
+use Rattle.std.proofs.lemmas.List.{drop-drop, length-drop, take_all}
 use Rattle.std.proofs.KnownBytes.{Consumes-trans, Consumes-nil}
-use Rattle.std.specs.Io.KnownBytes.{Consumes, IsAtEnd, Keeps}
+use Rattle.std.specs.Io.KnownBytes.{Consumes}
 use Rattle.ace_io.proofs.Held.{passed}
 use Rattle.ace_io.specs.Faults.{Takes}
 use Rattle.ace_io.specs.Line.{in_front}
-use Rattle.ace_tool.specs.Packing.{packing_of}
 
 pub ruleset peeking = (Consumes-trans, Consumes-nil)
 

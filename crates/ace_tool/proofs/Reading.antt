@@ -1,10 +1,10 @@
 -- What is told of the bytes of a source, of which the first are looked at before.
-use Rattle.std.proofs.Common.{◌≡◌, ◌<◌, ◌≤◌, ◌++◌, ℕ, List, [], ◌∷◌, Option, None, Some, IfSome, bytes_eq, if◌then◌else◌, length, take, drop, refl, arith, ap, ◌∙◌, sym, subst, append-nil, inl, inr}
+use Rattle.std.proofs.Common.{◌≡◌, ◌<◌, ◌≤◌, ◌++◌, ℕ, List, [], Option, None, Some, IfSome, length, take, refl, arith, ap, ◌∙◌, sym, subst, append-nil, inl, inr}
 use Rattle.std.proofs.lemmas.Bool.{cases_lt}
 use Rattle.std.proofs.lemmas.List.{take-append-le}
 use Rattle.std.specs.Io.KnownBytes.{Consumes, IsAtEnd}
 use Rattle.ace_io.specs.Line.{in_front}
-use Rattle.ace_verdict.specs.Verdict.{IsDueVerdict, IsVerdict}
+use Rattle.ace_verdict.specs.Verdict.{IsVerdict}
 use Rattle.ace_verdict.specs.declared.verdict.Verdict.{Verdict}
 use Rattle.ace_verdict.specs.declared.verdict.Verdict.TheVariants.{ReadFault}
 use Rattle.ace_tool.specs.Checked.{IsRead}

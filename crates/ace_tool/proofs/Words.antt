@@ -1,11 +1,10 @@
 -- Words that are taken one after another, and what they ask.
-use Rattle.std.proofs.Common.{◌≡◌, ◌≢◌, ◌<◌, ◌∷◌, ◌+◌, ℕ, List, [], String, Option, None, Some, codes, length, map, string_bytes, drop, get_or, refl, arith, ◌∙◌, ap, subst, sym, Bool, IsTrue, bytes_eq}
+use Rattle.std.proofs.Common.{◌≡◌, ◌≢◌, ◌<◌, ◌∷◌, ◌+◌, ℕ, List, [], String, None, Some, codes, length, map, string_bytes, drop, get_or, refl, arith, ◌∙◌, ap, subst, sym, Bool, IsTrue, bytes_eq}
 use Rattle.std.proofs.lemmas.Slice.Eq.{bytes_eq-Decides}
 use Rattle.std.proofs.lemmas.List.{drop_more}
 use Rattle.std.specs.declared.alloc.Global.{Global}
-use Rattle.ace_tool.specs.Asked.{Asked, AsksCheck, CheckAsked, IsChecked, IsLimit, nothing, with_all, with_more}
+use Rattle.ace_tool.specs.Asked.{Asked, AsksCheck, CheckAsked, IsChecked, nothing, with_all, with_more}
 use Rattle.ace_tool.specs.Requests.{Asks, Wish, Help, HelpOfCheck, Version, Check}
-use Rattle.ace_tool.specs.declared.options.Limit.{Limit}
 
 -- behind a word that is wrong nothing is asked
 pub all_wrong : (rest : List (List ℕ)) → with_all None rest ≡ None
@@ -22,35 +21,16 @@ wrong_at words i d asked within wrong =
 
 pub ruleset wrongs = (all_wrong, wrong_at)
 
--- an option waits for its value
-pub a_value_is_missing : (asked : Asked) (limit : Limit) (check : CheckAsked) → asked.awaited ≡ Some limit → ¬ IsChecked asked check
-a_value_is_missing asked limit check awaits is = let none = is.no_value_is_missing in absurd (cc)
-
--- the value of an option is no number
-pub no_events : (asked : Asked) (check : CheckAsked) → ((limit : Option ℕ) → ¬ IsLimit asked.most_events limit) → ¬ IsChecked asked check
-no_events asked check wrong is = wrong check.most_events is.most_events
-
-pub no_lines : (asked : Asked) (check : CheckAsked) → ((limit : Option ℕ) → ¬ IsLimit asked.most_lines limit) → ¬ IsChecked asked check
-no_lines asked check wrong is = wrong check.most_lines is.most_lines
-
-pub ruleset finishes = (a_value_is_missing, no_events, no_lines)
-
 -- words that ask nothing ask for no check
 pub no_words : (words : List (List ℕ)) (check : CheckAsked) → with_all (Some nothing) words ≡ None → ¬ AsksCheck words check
 no_words words check wrong (asked, right, is) = absurd (cc)
 
--- and what is asked is asked by no others
-pub no_check : (words : List (List ℕ)) (asked : Asked) (check : CheckAsked) → with_all (Some nothing) words ≡ Some asked
-    → ((c : CheckAsked) → ¬ IsChecked asked c) → ¬ AsksCheck words check
-no_check words asked check right none_is (other, same, is) =
-    let one : other ≡ asked = cc in
-    none_is check (subst (λ a. IsChecked a check) one is)
-
+-- and those that are right for one
 pub a_check : (words : List (List ℕ)) (asked : Asked) (check : CheckAsked) → with_all (Some nothing) words ≡ Some asked
     → IsChecked asked check → AsksCheck words check
 a_check words asked check right is = (asked, right, is)
 
-pub ruleset checks = (no_words, no_check, a_check)
+pub ruleset checks = (no_words, a_check)
 
 -- a word is the only one
 pub only_word : (words : List (String Global)) (word : String Global) (rest : List (String Global)) → words ≡ word ∷ rest

@@ -1,7 +1,6 @@
 pub mod Answer
 pub mod Asked
 pub mod Checked
-pub mod Options
 pub mod Outcome
 pub mod Packing
 pub mod Peeked

@@ -1,5 +1,5 @@
 -- What the words of the command line ask.
-use Rattle.std.specs.Prelude.{◌≡◌, ℕ, List, [], ◌∷◌, codes, map, option_map}
+use Rattle.std.specs.Prelude.{◌≡◌, ℕ, List, [], ◌∷◌, codes}
 use Rattle.ace_tool.specs.Asked.{AsksCheck, CheckAsked}
 
 -- what can be asked: the help on all commands, that on `check`, the version, or a check

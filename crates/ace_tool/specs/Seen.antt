@@ -1,5 +1,5 @@
 -- Which statuses occurred.
-use Rattle.std.specs.Prelude.{◌≡◌, ◌<◌, ◌==◌, ℕ, Bool, false, List, length, nat_lt}
+use Rattle.std.specs.Prelude.{◌≡◌, ◌==◌, ℕ, Bool, false, List, length, nat_lt}
 use Rattle.std.specs.List.{list_any}
 use Rattle.ace_tool.specs.declared.seen.Seen.{Seen}
 

@@ -1,5 +1,5 @@
 -- The texts that say how the program is used.
-use Rattle.std.specs.Prelude.{ℕ, List, ◌++◌, codes}
+use Rattle.std.specs.Prelude.{ℕ, List, codes}
 
 abbrev pub help : List ℕ
 help =
@@ -7,7 +7,7 @@ help =
 
 abbrev pub check_help : List ℕ
 check_help =
-    codes "usage: acetool check [OPTION].. [--] [FILE]..\n\nSays of each trace what `ace check` says of it, in a line FILE: VERDICT, and of standard input the\nverdict alone.\n\n  --most-events N  `limit events` where a trace goes on after N events (no limit)\n  --most-lines N   `limit lines` where its transactions name more than N lines (no limit)\n\nstatus: 0 each trace was accepted; else the first that came of 1 refused, 3 malformed, 6 a limit,\n4 unreadable, 7 no memory; 5 an output failed; 2 these words are wrong\n"
+    codes "usage: acetool check [--] [FILE]..\n\nSays of each trace what `ace check` says of it, in a line FILE: VERDICT, and of standard input the\nverdict alone.\n\nstatus: 0 each trace was accepted; else the first that came of 1 refused, 3 malformed, 6 a limit,\n4 unreadable, 7 no memory; 5 an output failed; 2 these words are wrong\n"
 
 abbrev pub version : List ℕ
 version = codes "acetool 1.0.0\n"

@@ -1,5 +1,5 @@
 -- What was asked by words of the command line, as the structs of the program keep it.
-use Rattle.std.specs.Prelude.{Bool, if◌then◌else◌, List, Option, None, Some, map, option_map}
+use Rattle.std.specs.Prelude.{Bool, if◌then◌else◌, Option, None, Some, map}
 use Rattle.ace_tool.specs.Asked.{Asked, CheckAsked}
 use Rattle.ace_tool.specs.Requests.{Wish}
 use Rattle.ace_tool.specs.Requests as wish
@@ -13,8 +13,6 @@ if_right right asked = if right then Some asked else None
 
 abbrev pub check_of : CheckCall → CheckAsked
 check_of call = record {
-  most_events = call.most_events;
-  most_lines = call.most_lines;
   traces = map (λ name. name.now) call.traces.items;
 }
 

@@ -7,7 +7,6 @@ mod check_words;
 mod conclude;
 mod folder;
 mod line;
-mod options;
 mod packing;
 mod peeked;
 mod report;

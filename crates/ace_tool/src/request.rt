@@ -41,7 +41,10 @@ fn check_call<'a>(alloc: Global, words: &'a [String]) -> Result<Option<CheckCall
         (λ c. AsksCheck (map string_bytes words.entry.now) (check_of c))) }
 {
     match CheckWords::read(alloc, words) {
-        Ok(Some(asked)) => asked.finish(),
+        Ok(Some(asked)) => match asked.finish() {
+            Ok(call) => Ok(Some(call)),
+            Err(NoMemory) => Err(NoMemory),
+        },
         Ok(None) => Ok(None),
         Err(NoMemory) => Err(NoMemory),
     }

@@ -21,13 +21,10 @@ FILE is a trace; `-`, or no file, is standard input. `acetool COMMAND --help` te
 pub(crate) fn check_help() -> &'static str
     ensures { result.now ≡ check_help }
 {
-    "usage: acetool check [OPTION].. [--] [FILE]..
+    "usage: acetool check [--] [FILE]..
 
 Says of each trace what `ace check` says of it, in a line FILE: VERDICT, and of standard input the
 verdict alone.
-
-  --most-events N  `limit events` where a trace goes on after N events (no limit)
-  --most-lines N   `limit lines` where its transactions name more than N lines (no limit)
 
 status: 0 each trace was accepted; else the first that came of 1 refused, 3 malformed, 6 a limit,
 4 unreadable, 7 no memory; 5 an output failed; 2 these words are wrong

@@ -1,5 +1,4 @@
-use Rattle.std.proofs.Common.{rules, codes, subst, ap, ◌++◌, ◌∙◌, OnErr, OnOk}
-use Rattle.std.specs.Io.KnownBytes.{Appends}
+use Rattle.std.proofs.Common.{rules, subst, OnErr}
 use Rattle.ace_convert.specs.Output.{AppendsPart}
 use Rattle.ace_tool.proofs.line.give_line.Goals as goal
 

@@ -1,5 +1,4 @@
-use Rattle.std.proofs.Common.{rules, arith, subst, drop, length, ap, ◌≡◌, ◌∙◌, sym}
-use Rattle.std.proofs.lemmas.Grind.{common_steps}
+use Rattle.std.proofs.Common.{rules, length, ap, ◌≡◌, ◌∙◌, sym}
 use Rattle.ace_tool.specs.Peeked.{front_of}
 use Rattle.ace_tool.proofs.Peeking.{from_behind, from_front}
 use Rattle.ace_tool.proofs.peeked.PeekedSource.take.Goals as goal
