@@ -1,4 +1,4 @@
--- The clauses of K11 to K17 that are named.
+-- The clauses of K11 to K13 that are named.
 use Rattle.std.proofs.Common.{◌≡◌, ℕ, Bool, true, false, not, ◌==◌, Option, Some, None, is_none, option_map, refl, sym, ap, ◌∙◌}
 use Rattle.ace_event.specs.declared.event.Channel.{Channel}
 use Rattle.ace_event.specs.declared.event.Event.{Event}
