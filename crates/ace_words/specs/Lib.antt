@@ -5,3 +5,4 @@ pub mod WriteSentences
 pub mod CacheSentences
 pub mod OrderSentences
 pub mod Rules
+pub mod Kinds
