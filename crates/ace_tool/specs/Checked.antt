@@ -1,6 +1,6 @@
 -- What was told of traces, and whether it is right.
 use Rattle.std.specs.Prelude.{◌≡◌, ⊤, ℕ, Bool, true, false, List, [], ◌∷◌, ◌++◌, Option, None, Some, IfSome, map}
-use Rattle.ace_verdict.specs.Verdict.{IsDueVerdict, IsVerdict}
+use Rattle.ace_verdict.specs.Verdict.{IsDueVerdict, IsVerdict, ReadsSound}
 use Rattle.ace_tool.specs.Asked.{is_input}
 use Rattle.ace_tool.specs.Packing.{packing_of}
 use Rattle.ace_tool.specs.Reports.{line_of, status_of}
@@ -49,3 +49,15 @@ lines_of (c ∷ past) = lines_of past ++ line_of c.name c.report
 -- their statuses
 abbrev pub statuses_of : List Checked → List ℕ
 statuses_of checked = map (λ c. status_of c.report) checked
+
+-- Of standard input this holds; what a file holds is a whole trace with all that acceptance promises.
+abbrev pub IsSoundBy : Bool → Option (List ℕ) → Type 0 → Type 0
+IsSoundBy true told of_input = of_input
+IsSoundBy false told of_input = IfSome told ReadsSound
+
+-- The traces that were told of are whole, and have all that acceptance promises, where their bytes are
+-- told: each is coherent, its exclusive stores are exclusive, its barriers order, and its Syncs wait for all.
+abbrev pub AreSound : (List ℕ → Option (List ℕ)) → Option (List ℕ) → List Checked → Type 0
+AreSound holds input [] = ⊤
+AreSound holds input (c ∷ past) = AreSound holds input past
+    × IsSoundBy (is_input c.name) (holds c.name) ((between : Option (List ℕ)) × AreRight holds input past between × IfSome between ReadsSound)

@@ -6,6 +6,7 @@ mod check_call;
 mod check_words;
 mod conclude;
 mod folder;
+pub mod laws;
 mod line;
 mod packing;
 mod peeked;

@@ -10,7 +10,7 @@ use Rattle.ace_top.specs.declared.answer.Answer.{Answer}
 use Rattle.ace_top.specs.declared.words.Command.TheVariants.{Check}
 use Rattle.ace_top.specs.Answer.{Answers, BreaksOff, IsAnswer}
 use Rattle.ace_convert.specs.Output.{AppendsPart}
-use Rattle.ace_top.specs.Output.{AppendsParts}
+use Rattle.ace_call.specs.Output.{AppendsParts}
 use Rattle.ace_top.specs.Cause.{HasReadCause}
 use Rattle.ace_top.specs.Results.{verdict_answer}
 use Rattle.ace_top.specs.Texts.{status_of, out_text_of, notes_text_of}

@@ -18,11 +18,11 @@ use Rattle.ace_top.specs.declared.answer.Answer.TheVariants.{Reported, NoMemory}
 use Rattle.ace_top.specs.declared.words.Command.TheVariants as command
 use Rattle.ace_top.specs.Answer.{Answers, BreaksOff, FitsAnswer, IsAnswer}
 use Rattle.ace_convert.specs.Output.{AppendsPart}
-use Rattle.ace_top.specs.Output.{AppendsParts}
+use Rattle.ace_call.specs.Output.{AppendsParts}
 use Rattle.ace_top.specs.Report.{ReportsTrace, IsReported}
 use Rattle.ace_top.specs.Results.{verdict_answer}
 use Rattle.ace_top.specs.Texts.{status_of, out_text_of, notes_text_of}
-use Rattle.ace_top.proofs.Parts.{both_nothing}
+use Rattle.ace_call.proofs.Parts.{both_nothing}
 use Rattle.ace_top.proofs.WrittenLemmas.{alone}
 
 -- an account of the trace that was followed is one of the trace that was read

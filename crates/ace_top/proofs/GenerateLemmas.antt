@@ -11,9 +11,9 @@ use Rattle.ace_top.specs.declared.words.Command.TheVariants.{Gen}
 use Rattle.ace_top.specs.Answer.{Answers, BreaksOff}
 use Rattle.ace_top.specs.Generate.{script_of}
 use Rattle.ace_convert.specs.Output.{AppendsPart}
-use Rattle.ace_top.specs.Output.{AppendsParts}
+use Rattle.ace_call.specs.Output.{AppendsParts}
 use Rattle.ace_top.specs.Texts.{status_of, out_text_of, notes_text_of}
-use Rattle.ace_top.proofs.Parts.{both_nothing}
+use Rattle.ace_call.proofs.Parts.{both_nothing}
 
 -- a front of the text was given
 pub front_given : (before held : Option (List ℕ)) (text : List ℕ) → GivesFront before held text → AppendsPart before held text

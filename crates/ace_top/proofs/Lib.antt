@@ -6,12 +6,10 @@ pub mod GenerateLemmas
 pub mod GeneratedRight
 pub mod Hyphens
 pub mod KeptRuns
-pub mod Numbers
 pub mod OneScript
 pub mod OneAnswer
 pub mod OneRun
 pub mod ParseLemmas
-pub mod Parts
 pub mod RunLemmas
 pub mod RunTexts
 pub mod WordsAnswered

@@ -20,10 +20,10 @@ use Rattle.ace_top.specs.Answer.{Answers, BreaksOff, FitsAnswer}
 use Rattle.ace_top.specs.Cause.{HasReadCause}
 use Rattle.ace_top.specs.Results.{plan_answer}
 use Rattle.ace_convert.specs.Output.{AppendsPart}
-use Rattle.ace_top.specs.Output.{AppendsParts}
+use Rattle.ace_call.specs.Output.{AppendsParts}
 use Rattle.ace_top.specs.Run.{IsRan, SnoopsBy}
 use Rattle.ace_top.specs.Texts.{status_of, out_text_of, notes_text_of}
-use Rattle.ace_top.proofs.Parts.{both_nothing}
+use Rattle.ace_call.proofs.Parts.{both_nothing}
 use Rattle.ace_top.proofs.WrittenLemmas.{alone}
 
 -- the trace of a run is that of a run of the script

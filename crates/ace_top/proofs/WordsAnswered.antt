@@ -12,12 +12,13 @@ use Rattle.ace_top.specs.declared.words.Command.TheVariants.{Convert}
 use Rattle.ace_top.specs.declared.words.Snooping.TheVariants.{AllPorts, KeptPorts}
 use Rattle.ace_top.specs.Answer.{CarriesOut, AnswersWords, BreaksOffWords}
 use Rattle.ace_top.specs.Command.{Judges, Names, ReadsInput, ReadsScript, ReadsTrace}
-use Rattle.ace_top.proofs.Parts.{nothing_appended}
+use Rattle.ace_call.proofs.Parts.{nothing_appended}
 use Rattle.ace_top.specs.declared.answer.Answer.TheVariants.{NoMemory, Usage}
 use Rattle.ace_convert.specs.Output.{AppendsPart}
-use Rattle.ace_top.specs.Output.{AppendsParts}
+use Rattle.ace_call.specs.Output.{AppendsParts}
 use Rattle.ace_top.specs.Texts.{notes_text_of}
-use Rattle.ace_top.specs.Words.{IsCheck, IsSomeAccount, IsConvert, IsRun, IsSomeRun, IsGen, IsNumbered, IsTrial, IsTraceCommand, IsReadingCommand, IsCommand, IsNumber, IsWord, account_word, word_of}
+use Rattle.ace_call.specs.Number.{IsNumber}
+use Rattle.ace_top.specs.Words.{IsCheck, IsSomeAccount, IsConvert, IsRun, IsSomeRun, IsGen, IsNumbered, IsTrial, IsTraceCommand, IsReadingCommand, IsCommand, IsWord, account_word, word_of}
 
 pub words_carried : (words : List (String Global)) (command : Command) (input left : Option (List ℕ)) (status : ℕ) (out out' notes notes' : Option (List ℕ)) (faults faults' : ℕ)
     → CarriesOut command input left status out out' notes notes' faults faults' → Names words command → status ≢ 5 → AnswersWords words input left status out out' notes notes'

@@ -15,9 +15,9 @@ use Rattle.ace_top.specs.declared.words.Command.TheVariants.{Convert}
 use Rattle.ace_top.specs.Answer.{IsAnswer, Answers, FitsAnswer, BreaksOff}
 use Rattle.ace_top.specs.Cause.{HasReadCause}
 use Rattle.ace_top.specs.Results.{end_answer}
-use Rattle.ace_top.specs.Output.{AppendsParts}
+use Rattle.ace_call.specs.Output.{AppendsParts}
 use Rattle.ace_top.specs.Texts.{status_of, out_text_of, notes_text_of}
-use Rattle.ace_top.proofs.Parts.{both_nothing}
+use Rattle.ace_call.proofs.Parts.{both_nothing}
 
 -- behind the trace there is no further text for the standard output
 quiet : (end : TraceEnd) → out_text_of (end_answer end) ≡ []

@@ -19,7 +19,7 @@ use Rattle.ace_top.specs.declared.words.Command.TheVariants.{Check, Account, Con
 use Rattle.ace_top.specs.Checked.{IsChecked}
 use Rattle.ace_top.specs.Command.{Names}
 use Rattle.ace_top.specs.Generate.{IsGenerated}
-use Rattle.ace_top.specs.Output.{AppendsParts}
+use Rattle.ace_call.specs.Output.{AppendsParts}
 use Rattle.ace_top.specs.Texts.{status_of, out_text_of, notes_text_of}
 use Rattle.ace_top.specs.Report.{AreAccepted, IsReported}
 use Rattle.ace_top.specs.Run.{IsRan, IsTried, WritesSomeRun}

@@ -3,7 +3,6 @@ pub mod Cause
 pub mod Checked
 pub mod Command
 pub mod Generate
-pub mod Output
 pub mod Parse
 pub mod Report
 pub mod Results

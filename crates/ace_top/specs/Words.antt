@@ -4,6 +4,7 @@ use Rattle.std.specs.String.{string_bytes}
 use Rattle.std.specs.declared.alloc.Global.{Global}
 use Rattle.ace_account.specs.declared.listener.Account.{Account}
 use Rattle.ace_account.specs.declared.listener.Account.TheVariants.{Report, Order}
+use Rattle.ace_call.specs.Number.{IsNumber}
 use Rattle.ace_convert.specs.declared.conversion.Conversion.{Conversion}
 use Rattle.ace_convert.specs.declared.conversion.Conversion.TheVariants.{Show, Migrate, Pack, Unpack}
 use Rattle.ace_top.specs.declared.words.Snooping.{Snooping}
@@ -38,10 +39,6 @@ word_of Unpack = codes "unpack"
 -- the word is that of a conversion
 abbrev pub IsConvert : List (String Global) → Conversion → Type 0
 IsConvert words conversion = IsWord words (word_of conversion)
-
--- the word is this number, from 0 to 2^64 - 1, in decimal: it has no sign, and no zero in front
-abbrev pub IsNumber : List ℕ → ℕ → Type 0
-IsNumber word number = (number < 2 ^ 64) × (word ≡ decimal number)
 
 -- the words for a run, by what it snoops
 abbrev pub run_words : Snooping → List (List ℕ)

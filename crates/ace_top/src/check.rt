@@ -6,8 +6,9 @@ ghost use Rattle.ace_top.specs.Answer.{CarriesOut, HasStatusCause};
 ghost use Rattle.ace_top.specs.declared.words.Command.TheVariants as command;
 
 use crate::answer::{Answer, verdict_answer};
-use crate::output::{break_off, conclude};
+use crate::output::conclude;
 use ace_account::{Account, AccountErr};
+use ace_call::break_off;
 use ace_io::{Sink, Source};
 use ace_verdict::{follow_trace, put_account, verdict_on};
 use std::alloc::Global;

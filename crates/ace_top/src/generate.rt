@@ -8,7 +8,8 @@ ghost use Rattle.ace_convert.specs.Output.{AppendsPart};
 ghost use Rattle.ace_top.specs.declared.words.Command.TheVariants as command;
 
 use crate::answer::Answer;
-use crate::output::{break_off, conclude};
+use crate::output::conclude;
+use ace_call::break_off;
 use ace_io::Sink;
 use ace_script::Plan;
 use ace_writer::WriteErr;

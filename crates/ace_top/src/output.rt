@@ -1,29 +1,17 @@
 // The texts of an answer on the two outputs.
 ghost use Rattle.std.specs.Prelude.{◌≡◌, ◌≢◌, ◌<◌, ◌≤◌, ◌-◌, ◌^◌, ◌⊎◌, codes, OnOk, OnErr};
 ghost use Rattle.std.specs.Io.KnownBytes.{Appends, Keeps};
-ghost use Rattle.ace_io.specs.Faults.{Rose, HasCause};
+ghost use Rattle.ace_io.specs.Faults.{Rose};
 ghost use Rattle.ace_convert.specs.Output.{AppendsPart};
-ghost use Rattle.ace_top.specs.Output.{AppendsParts};
+ghost use Rattle.ace_call.specs.Output.{AppendsParts};
 ghost use Rattle.ace_top.specs.Texts.{status_of, out_text_of, notes_text_of};
 
 use crate::answer::{Answer, notes_text, out_text, status_of};
-use ace_io::{Failed, Sink, give_all};
-
-/// Gives the whole text.
-#[tactic(auto, using(crate::proofs::Parts::fronts))]
-fn give_text<K: Sink>(sink: &mut K, text: &[u8]) -> Result<(), Failed>
-    ensures whole { OnOk result (Appends (K.held sink.old) (K.held sink.new) text.now) }
-    ensures part { OnErr result (AppendsPart (K.held sink.old) (K.held sink.new) text.now) }
-    ensures cause { HasCause (K.faults sink.old) (K.faults sink.new) result }
-{
-    if give_all(sink, text) < text.len() {
-        return Err(Failed);
-    }
-    Ok(())
-}
+use ace_call::{break_off, give_text};
+use ace_io::{Failed, Sink};
 
 /// Gives the texts of the answer.
-#[tactic(auto, using(crate::proofs::Parts::parts))]
+#[tactic(auto, using(ace_call::proofs::Parts::parts))]
 fn give_texts<K: Sink, E: Sink>(out: &mut K, notes: &mut E, answer: Answer) -> Result<(), Failed>
     ensures out_whole { OnOk result (Appends (K.held out.old) (K.held out.new) (out_text_of answer)) }
     ensures notes_whole { OnOk result (Appends (E.held notes.old) (E.held notes.new) (notes_text_of answer)) }
@@ -44,21 +32,8 @@ fn give_texts<K: Sink, E: Sink>(out: &mut K, notes: &mut E, answer: Answer) -> R
     }
 }
 
-/// Tells that an output failed, once.
-#[tactic(auto, using(crate::proofs::Parts::parts))]
-pub fn break_off<E: Sink>(notes: &mut E) -> u8
-    ensures status { result ≡ 5 }
-    ensures told { E.faults notes.old < 2 ^ 64 - 1 → E.faults notes.new ≡ E.faults notes.old
-        → Appends (E.held notes.old) (E.held notes.new) (codes "write fault\n") }
-    ensures later { E.faults notes.old ≤ E.faults notes.new }
-    ensures part { AppendsPart (E.held notes.old) (E.held notes.new) (codes "write fault\n") }
-{
-    let _ = give_text(notes, b"write fault\n");
-    5
-}
-
 /// Gives the texts of the answer, and returns its status. Where an output fails it tells so, once, and returns 5.
-#[tactic(auto, using(crate::proofs::Parts::parts))]
+#[tactic(auto, using(ace_call::proofs::Parts::parts))]
 pub fn conclude<K: Sink, E: Sink>(out: &mut K, notes: &mut E, answer: Answer) -> u8
     ensures status { result ≢ 5 → result ≡ status_of answer }
     ensures out_given { result ≢ 5 → Appends (K.held out.old) (K.held out.new) (out_text_of answer) }

@@ -20,8 +20,9 @@ ghost use Rattle.ace_top.specs.Run.{SnoopsBy};
 ghost use Rattle.ace_top.specs.declared.words.Command.TheVariants as command;
 
 use crate::answer::{Answer, plan_answer};
-use crate::output::{break_off, conclude};
+use crate::output::conclude;
 use crate::words::Snooping;
+use ace_call::break_off;
 use ace_event::laws::every_event_fits;
 use ace_event::{Event, Header};
 use ace_fabric::System;

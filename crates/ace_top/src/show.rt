@@ -5,7 +5,8 @@ ghost use Rattle.ace_top.specs.Answer.{CarriesOut, HasStatusCause};
 ghost use Rattle.ace_top.specs.declared.words.Command.TheVariants as command;
 
 use crate::answer::end_answer;
-use crate::output::{break_off, conclude};
+use crate::output::conclude;
+use ace_call::break_off;
 use ace_convert::{Conversion, convert};
 use ace_io::{Sink, Source};
 use std::alloc::Global;

@@ -7,7 +7,7 @@ ghost use Rattle.ace_verdict.specs.Verdict.{ReadsSound};
 ghost use Rattle.ace_top.specs.Words.{IsCheck, IsSomeRun, IsSomeAccount, IsTraceCommand, IsReadingCommand, IsCommand};
 ghost use Rattle.ace_top.specs.Answer.{AnswersWords, BreaksOffWords, CarriesOut, HasStatusCause};
 ghost use Rattle.ace_top.specs.Command.{Judges, ReadsInput, ReadsScript, ReadsTrace};
-ghost use Rattle.ace_top.specs.Output.{AppendsParts};
+ghost use Rattle.ace_call.specs.Output.{AppendsParts};
 
 use crate::answer::Answer;
 use crate::check::{tell_account, tell_verdict};

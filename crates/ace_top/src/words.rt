@@ -5,13 +5,14 @@ ghost use Rattle.ace_top.specs.Command.{Names};
 ghost use Rattle.ace_top.specs.Parse.{any_hyphen, starts_with_hyphen};
 ghost use Rattle.ace_account.specs.declared.listener.Account.{Account};
 ghost use Rattle.ace_convert.specs.declared.conversion.Conversion.{Conversion};
-ghost use Rattle.ace_top.specs.Words.{IsCommand, IsNumber, account_word, word_of};
+ghost use Rattle.ace_call.specs.Number.{IsNumber};
+ghost use Rattle.ace_top.specs.Words.{IsCommand, account_word, word_of};
 
 use crate::parse::{Positionals, parse_words};
 use ace_account::Account;
+use ace_call::number_of;
 use ace_convert::Conversion;
 use ace_io::NoMemory;
-use itoa::Buffer;
 use std::alloc::Global;
 
 /// Which ports a run snoops for a line.
@@ -38,31 +39,6 @@ pub enum Command {
     Gen { number: u64 },
     /// To run that script, and to tell of the run.
     Trial { number: u64 },
-}
-
-/// Whether the word is this number, in decimal.
-fn is_decimal(word: &str, number: u64) -> bool
-    ensures { IsTrue result ↔ (word.now ≡ decimal number) }
-{
-    let mut digits = Buffer::new();
-    word == digits.format(number)
-}
-
-/// The number that the word is, if it is one.
-#[tactic(auto, using(crate::proofs::Numbers::numbers))]
-fn number_of(word: &str) -> Option<u64>
-    ensures { MatchOption result ((n : ℕ) → ¬ IsNumber word.now n) (IsNumber word.now) }
-{
-    match word.parse::<u64>() {
-        Ok(number) => {
-            if is_decimal(word, number) {
-                Some(number)
-            } else {
-                None
-            }
-        }
-        Err(_) => None,
-    }
 }
 
 fn begins_with_hyphen(word: &str) -> bool

@@ -1,4 +1,4 @@
-use Rattle.ace_top.proofs.Parts.{nothing_appended}
+use Rattle.ace_call.proofs.Parts.{nothing_appended}
 use Rattle.ace_top.proofs.top.tell_no_memory.Goals as goal
 
 pub returns-clause-nothing : goal.returns-clause-nothing
