@@ -3,6 +3,7 @@
 
 use ace_call::read_words;
 use ace_io::{StdSink, StdSource};
+use ace_retry::Patient;
 use ace_tool::{Folder, OpenErr, acetool, tell_no_memory};
 use std::fs;
 use std::fs::File;
@@ -16,15 +17,15 @@ struct Disk<'a> {
 }
 
 impl<'a> Folder for Disk<'a> {
-    type File = StdSource<File>;
+    type File = StdSource<Patient<File>>;
 
     ghost use Rattle.std.specs.Prelude.{None};
 
     ghost holds = { λ _ _. None };
 
-    fn open(&self, name: &str) -> Result<StdSource<File>, OpenErr> {
+    fn open(&self, name: &str) -> Result<StdSource<Patient<File>>, OpenErr> {
         match fs::open(self.rt, name) {
-            Ok(file) => Ok(StdSource::new(file)),
+            Ok(file) => Ok(StdSource::new(Patient::new(file))),
             Err(error) => Err(match error.kind() {
                 ErrorKind::NotFound => OpenErr::NotThere,
                 ErrorKind::PermissionDenied => OpenErr::NotAllowed,
@@ -35,9 +36,9 @@ impl<'a> Folder for Disk<'a> {
 }
 
 fn main(rt: HostRuntime) -> ExitCode {
-    let mut input = StdSource::new(rt.stdin());
-    let mut out = StdSink::new(rt.stdout());
-    let mut notes = StdSink::new(rt.stderr());
+    let mut input = StdSource::new(Patient::new(rt.stdin()));
+    let mut out = StdSink::new(Patient::new(rt.stdout()));
+    let mut notes = StdSink::new(Patient::new(rt.stderr()));
     let status = match read_words(&rt) {
         Some(words) => acetool(
             rt.alloc(),
