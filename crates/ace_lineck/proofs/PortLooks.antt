@@ -1,16 +1,11 @@
 -- What is told of a line and a port, by what is kept of the line.
-use Rattle.std.proofs.Common.{◌≡◌, ℕ, Bool, true, false, not, ◌&&◌, Option, None, Some, is_none, option_map, refl, sym, ap, ◌∙◌}
-use Rattle.std.proofs.lemmas.Bool.{cases_Bool}
+use Rattle.std.proofs.Common.{◌≡◌, ℕ, Option, None, Some, option_map, sym, ap, ◌∙◌}
 use Rattle.ace_event.specs.declared.header.Header.{Header}
-use Rattle.ace_model.specs.declared.snoops.Answer.{Answer}
 use Rattle.ace_model.specs.declared.transactions.Transaction.{Transaction}
-use Rattle.ace_model.specs.Grants.{granted, is_begun, is_short, answer_of, owes_answer, owes_data, was_snooped}
+use Rattle.ace_model.specs.Grants.{granted, is_begun}
 use Rattle.ace_model.specs.Trace.{Trace, is_some_and}
-use Rattle.ace_model.specs.Accepted.{IsAccepted}
 use Rattle.ace_lineck.specs.declared.grant.Grant.{Grant}
-use Rattle.ace_lineck.specs.declared.stages.Stage.{Stage}
-use Rattle.ace_lineck.specs.declared.stages.Stage.TheVariants.{Unsnooped, Unanswered, Sending, Done}
-use Rattle.ace_lineck.specs.Grants.{GrantStands, stage_by, stage_of, stage_under}
+use Rattle.ace_lineck.specs.Grants.{GrantStands, stage_of, stage_under}
 
 pub transaction-granted : (h : Header) (past : Trace) (l : ℕ) (g : Option Grant) → GrantStands h past l g → option_map (λ (v : Grant). v.transaction) g ≡ granted h past l
 transaction-granted h past l None none = sym none

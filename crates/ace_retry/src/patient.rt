@@ -1,8 +1,6 @@
 //! A reader or a writer that is called again where its call was interrupted.
 
-ghost use Rattle.std.specs.Prelude.{◌≡◌, IfOk};
-ghost use Rattle.std.specs.Io.{ReadsAtMost, WritesAtMost};
-ghost use Rattle.std.specs.Io.KnownBytes.{Keeps, ReadConsumes, WriteAppends};
+ghost use Rattle.std.specs.Prelude.{◌≡◌};
 
 use std::io::{Error, ErrorKind, Read, Result, Write};
 

@@ -1,5 +1,5 @@
 use Rattle.std.proofs.Common.{Some, ap, ◌∙◌}
-use Rattle.ace_lineck.proofs.Terms.{Holder, LineRecord, holder_at}
+use Rattle.ace_lineck.proofs.Terms.{LineRecord, holder_at}
 use Rattle.ace_lineck.proofs.lines.LineCheck.copy.Goals as goal
 
 pub returns : goal.returns
