@@ -1,9 +1,13 @@
--- The clauses of K11 to K13 that are named.
-use Rattle.std.proofs.Common.{◌≡◌, ℕ, Bool, true, false, not, ◌==◌, Option, Some, None, is_none, option_map, refl, sym, ap, ◌∙◌}
+-- The clauses of K11 to K13 and K17 that are named.
+use Rattle.std.proofs.Common.{◌≡◌, ℕ, Bool, true, false, not, ◌==◌, Option, Some, None, is_some, is_none, option_map, refl, sym, ap, ◌∙◌}
 use Rattle.ace_event.specs.declared.event.Channel.{Channel}
 use Rattle.ace_event.specs.declared.event.Event.{Event}
-use Rattle.ace_event.specs.declared.event.Event.TheVariants.{W, G, Ac}
+use Rattle.ace_event.specs.declared.event.Event.TheVariants.{W, G, Ac, Cd}
 use Rattle.ace_event.specs.declared.header.Header.{Header}
+use Rattle.ace_event.specs.declared.line.Line.{Line}
+use Rattle.ace_tables.specs.Answers.{same_test}
+use Rattle.ace_model.specs.Copies.{word_of}
+use Rattle.ace_model.specs.Replies.{next_sent, next_sent_beat}
 use Rattle.ace_model.specs.Trace.{Trace}
 use Rattle.ace_model.specs.declared.transactions.Transaction.{Transaction}
 use Rattle.ace_model.specs.Transactions.{outstanding, takes_grant}
@@ -12,8 +16,10 @@ use Rattle.ace_model.specs.Exclusives.{has_failed}
 use Rattle.ace_model.specs.SnoopRules.{has_snoop_code}
 use Rattle.ace_model.specs.Snoops.{snoops_a_line}
 use Rattle.ace_model.specs.States.{owes_wack}
-use Rattle.ace_model.proofs.General.Options.{Some-injective}
-use Rattle.ace_portck.specs.Targets.{Recording, progress_of}
+use Rattle.ace_model.proofs.General.Options.{Some-injective, some_is}
+use Rattle.ace_model.specs.declared.snoops.Snoop.{Snoop}
+use Rattle.ace_portck.proofs.SnoopSteps.{sent-sending}
+use Rattle.ace_portck.specs.Targets.{Recording, progress_of, sending}
 use Rattle.ace_portck.specs.declared.target.Progress.{Progress}
 use Rattle.ace_lineck.specs.Records.{name_of}
 use Rattle.ace_clauses.specs.declared.letters.Letter.TheVariants as letter
@@ -33,11 +39,33 @@ pub none_named : (o : Option Transaction) → option_map name_of o ≡ None → 
 none_named None is = refl
 none_named (Some x) is = cc
 
+-- where the port sends data for a snoop, it sends a line
+pub sends_line : (past : Trace) (p : ℕ) (s : Snoop) → sending past p ≡ Some s → (line : Line) × (next_sent past p ≡ Some line)
+sends_line past p s is = some_is (next_sent past p) (sent-sending past p ∙ ap is_some is)
+
 module _ (r : Recording) where
   -- K11, of an event that is no W
   pub k11_of_others : (e : Event) → ((p strb : ℕ) (last : Bool) (word : ℕ) → e ≡ W p strb last word → ⊥) → Names r e 11 letter.A
   k11_of_others (W p strb last word) w least = absurd (w p strb last word refl)
   k11_of_others e w least = none_broken (has_clause r.header r.past e 11 least)
+
+  -- K17, of a CD, and of an event that is none
+  module _ (p : ℕ) (last : Bool) (word : ℕ) where
+    pub unsent_cd : next_sent r.past p ≡ None → Names r (Cd p last word) 17 letter.A
+    unsent_cd none least = rw none refl
+
+    module _ (line : Line) (sends : next_sent r.past p ≡ Some line) where
+      pub miscounted_cd : same_test last (next_sent_beat r.past p == 3) ≡ false → Names r (Cd p last word) 17 letter.B
+      miscounted_cd counts least = rw (sends, counts) refl
+
+      pub wrong_cd : same_test last (next_sent_beat r.past p == 3) ≡ true → Names r (Cd p last word) 17 letter.C
+      wrong_cd counts least =
+          rw (sends, counts)
+          (last_one (word == word_of line (next_sent_beat r.past p)) letter.C (rw (sends, counts) at (has_clause r.header r.past (Cd p last word) 17 least)))
+
+  pub k17_of_others : (e : Event) → ((p : ℕ) (last : Bool) (word : ℕ) → e ≡ Cd p last word → ⊥) → Names r e 17 letter.A
+  k17_of_others (Cd p last word) cd least = absurd (cd p last word refl)
+  k17_of_others e cd least = none_broken (has_clause r.header r.past e 17 least)
 
   -- K12, of an event that is no G
   pub k12_of_others : (e : Event) → ((p : ℕ) (c : Channel) (i : ℕ) → e ≡ G p c i → ⊥) → Names r e 12 letter.A

@@ -1,5 +1,5 @@
 -- What is named of an event that breaks a rule.
-use Rattle.std.specs.Prelude.{ℕ, ◌≡◌, Option, Some}
+use Rattle.std.specs.Prelude.{ℕ, ◌≡◌, Bool, ◌||◌, ◌==◌, nat_le, Option, Some}
 use Rattle.ace_event.specs.declared.event.Event.{Event}
 use Rattle.ace_event.specs.declared.header.Header.{Header}
 use Rattle.ace_model.specs.Trace.{Trace}
@@ -22,3 +22,10 @@ abbrev pub IsClause : Shares → Event → ℕ → Option Letter → Type 0
 IsClause s e k o =
     (h : Header) (past : Trace) → SharesTell s h past → least_broken h past e ≡ Some k
     → o ≡ clause_of h past e k
+
+-- the rules whose clauses are told: K1 to K10; and K11 to K14 and K17
+abbrev pub is_snoop_rule : ℕ → Bool
+is_snoop_rule k = (k == 11) || (k == 12) || (k == 13) || (k == 14) || (k == 17)
+
+abbrev pub is_told : ℕ → Bool
+is_told k = nat_le k 10 || is_snoop_rule k

@@ -1,12 +1,12 @@
 //! The clause of a rule that an event breaks.
 
-ghost use Rattle.std.specs.Prelude.{◌<◌, ◌≤◌};
-ghost use Rattle.ace_explain.specs.Names.{IsClause};
+ghost use Rattle.std.specs.Prelude.{◌≡◌, ◌≤◌, true};
+ghost use Rattle.ace_explain.specs.Names.{IsClause, is_snoop_rule, is_told};
 
 use crate::address_clauses::{
     clause_of_k1, clause_of_k2, clause_of_k3, clause_of_k7, clause_of_k9, clause_of_k10,
 };
-use crate::snoop_clauses::{clause_of_k11, clause_of_k12, clause_of_k13};
+use crate::snoop_clauses::{clause_of_k11, clause_of_k12, clause_of_k13, clause_of_k17};
 use ace_check::Shares;
 use ace_clauses::Letter;
 use ace_event::Event;
@@ -31,9 +31,9 @@ fn address_clause(shares: &Shares, event: &Event, rule: u8) -> Option<Letter>
     }
 }
 
-/// The clause of one of K11 to K14.
+/// The clause of one of K11 to K14, or of K17.
 fn snoop_clause(shares: &Shares, event: &Event, rule: u8) -> Option<Letter>
-    ensures { 10 < rule → rule ≤ 14 → IsClause shares.now event.now rule result }
+    ensures { is_snoop_rule rule ≡ true → IsClause shares.now event.now rule result }
 {
     let ports = shares.ports();
     match rule {
@@ -41,14 +41,15 @@ fn snoop_clause(shares: &Shares, event: &Event, rule: u8) -> Option<Letter>
         12 => Some(clause_of_k12(ports, event)),
         13 => Some(clause_of_k13(shares, event)),
         14 => Some(Letter::A),
+        17 => Some(clause_of_k17(ports, event)),
         _ => None,
     }
 }
 
 /// The clause of the rule that the event breaks after the trace of which the shares tell: the first
-/// that is false, where the rule, one of K1 to K14, is the least that the event breaks.
+/// that is false, where the rule, one of K1 to K14 or K17, is the least that the event breaks.
 pub fn clause(shares: &Shares, event: &Event, rule: u8) -> Option<Letter>
-    ensures { rule ≤ 14 → IsClause shares.now event.now rule result }
+    ensures { is_told rule ≡ true → IsClause shares.now event.now rule result }
 {
     if rule <= 10 {
         address_clause(shares, event, rule)

@@ -1,8 +1,9 @@
-//! The clauses of the rules of write data, grants and snoops, K11 to K14. K14 has one clause.
+//! The clauses of the rules of write data, grants and snoops, K11 to K14 and K17. K14 has one clause.
 
-ghost use Rattle.std.specs.Prelude.{◌≡◌, ℕ, Some, true};
-ghost use Rattle.ace_event.specs.declared.event.Event.TheVariants.{W, G, Ac};
+ghost use Rattle.std.specs.Prelude.{◌≡◌, ◌==◌, ℕ, Some, true};
+ghost use Rattle.ace_event.specs.declared.event.Event.TheVariants.{W, G, Ac, Cd};
 ghost use Rattle.ace_event.specs.declared.header.Header.{Header};
+ghost use Rattle.ace_tables.specs.Answers.{same_test};
 ghost use Rattle.ace_model.specs.Exclusives.{has_failed};
 ghost use Rattle.ace_model.specs.Grants.{granted, is_begun};
 ghost use Rattle.ace_model.specs.Snoops.{snoops_a_line};
@@ -20,6 +21,13 @@ use ace_lineck::{LineCheck, has_snoop_code, takes_grant};
 use ace_model::kinds::snoops_a_line;
 use ace_portck::{PortCheck, Progress};
 
+/// The beat of a burst of four, from 0, is the last exactly where it says so.
+fn is_counted(last: bool, beat: u8) -> bool
+    ensures { result ≡ same_test last (beat == 3) }
+{
+    last == (beat == 3)
+}
+
 /// K11, of a W.
 fn clause_of_w(ports: &PortCheck, port: u8, strb: u16, last: bool) -> Letter
     ensures { (r : Recording) (word : ℕ) → PortsTell ports.now r
@@ -28,7 +36,7 @@ fn clause_of_w(ports: &PortCheck, port: u8, strb: u16, last: bool) -> Letter
     if ports.next_write(port).is_none() {
         return Letter::A;
     }
-    if last != (ports.next_write_beat(port) == 3) {
+    if !is_counted(last, ports.next_write_beat(port)) {
         return Letter::B;
     }
     if strb == 0xffff { Letter::D } else { Letter::C }
@@ -152,5 +160,33 @@ pub(crate) fn clause_of_k13(shares: &Shares, event: &Event) -> Letter
         clause_of_snoop(shares, port, addr, snoop)
     } else {
         Letter::A
+    }
+}
+
+/// K17, of a CD.
+fn clause_of_cd(ports: &PortCheck, port: u8, last: bool) -> Letter
+    ensures { (r : Recording) (word : ℕ) → PortsTell ports.now r
+        → Names r (Cd port last word) 17 result }
+{
+    match ports.sending(port) {
+        None => Letter::A,
+        Some(_) => {
+            if is_counted(last, ports.next_sent_beat(port)) {
+                Letter::C
+            } else {
+                Letter::B
+            }
+        }
+    }
+}
+
+/// K17: a CD has no answer, is the last where it isn't or the other way round, or isn't what the
+/// port had.
+pub(crate) fn clause_of_k17(ports: &PortCheck, event: &Event) -> Letter
+    ensures { (r : Recording) → PortsTell ports.now r → Names r event.now 17 result }
+{
+    match *event {
+        Event::Cd { port, last, .. } => clause_of_cd(ports, port, last),
+        _ => Letter::A,
     }
 }
