@@ -1,5 +1,5 @@
 // The lines of a side file, one by one.
-ghost use Rattle.std.specs.Prelude.{◌≡◌, ◌<◌, ◌∷◌, ℕ, List, None, length, IfOk, IfErr, IfSome, OnOk};
+ghost use Rattle.std.specs.Prelude.{◌≡◌, ◌<◌, ◌∷◌, List, None, length, IfOk, IfErr, IfSome, OnOk};
 ghost use Rattle.std.specs.Io.KnownBytes.{Consumes};
 ghost use Rattle.ace_event.specs.Text.{line_text};
 ghost use Rattle.ace_io.specs.Reader.{source_of, waiting};
@@ -7,7 +7,6 @@ ghost use Rattle.ace_side.specs.declared.line.SideLine.{SideLine};
 ghost use Rattle.ace_side.specs.Kept.{Stands};
 ghost use Rattle.ace_side.specs.Order.{order_reason};
 ghost use Rattle.ace_side.specs.Errors.{IsOutOfOrder};
-ghost use Rattle.ace_side.specs.Reading.{CanStand};
 ghost use Rattle.ace_side.specs.Reasons.{IsTextOf};
 ghost use Rattle.ace_side.specs.Errors.{HasFaultCause, HasNoStart, IsRefused, StandsNext};
 ghost use Rattle.ace_side.specs.Text.{first_text};

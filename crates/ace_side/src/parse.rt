@@ -1,5 +1,5 @@
 // A line, by its word and the fields behind it.
-ghost use Rattle.std.specs.Prelude.{◌≡◌, ◌<◌, Some, length, IfOk, IfErr, IfSome};
+ghost use Rattle.std.specs.Prelude.{◌<◌, Some, length, IfOk, IfErr, IfSome};
 ghost use Rattle.std.specs.Option.{option_map};
 ghost use Rattle.ace_grammar.specs.Parts.{parts};
 ghost use Rattle.ace_side.specs.declared.kind.LineKind.TheVariants as kind;

@@ -1,6 +1,5 @@
 // A side file is read from a source: its first line at once, and then line by line.
 ghost use Rattle.std.specs.Prelude.{◌≡◌, ℕ, List, [], Option, None, Some, Result, IfOk, IfErr};
-ghost use Rattle.std.specs.Io.KnownBytes.{Consumes};
 ghost use Rattle.ace_side.specs.declared.error.SideErr.{SideErr};
 ghost use Rattle.ace_side.specs.declared.line.SideLine.{SideLine};
 ghost use Rattle.ace_side.specs.Errors.{HasNoStart, HasFaultCause, StandsNext};
