@@ -8,7 +8,8 @@ use Rattle.ace_tool.specs.Requests.{Asks, Check, Help, HelpOfCheck, Version, Wis
 use Rattle.ace_tool.specs.Texts.{check_help, help, version}
 
 -- the text that answers a wish for a text
-abbrev pub IsTold : List ℕ → Option (List ℕ) → Option (List ℕ) → Option (List ℕ) → Option (List ℕ) → ℕ → Type 0
+abbrev pub IsTold : List ℕ → Option (List ℕ) → Option (List ℕ) → Option (List ℕ)
+    → Option (List ℕ) → ℕ → Type 0
 IsTold text input left out out' status = (status ≡ 0) × Appends out out' text × (left ≡ input)
 
 -- What is asked was done: of the files and of the input before and after, of the output before and
@@ -18,7 +19,8 @@ abbrev pub Does : (List ℕ → Option (List ℕ)) → Wish → Option (List ℕ
 Does holds Help input left out out' status = IsTold help input left out out' status
 Does holds HelpOfCheck input left out out' status = IsTold check_help input left out out' status
 Does holds Version input left out out' status = IsTold version input left out out' status
-Does holds (Check check) input left out out' status = ChecksAll holds check.traces input left out out' status
+Does holds (Check check) input left out out' status =
+    ChecksAll holds check.traces input left out out' status
 
 -- The output failed while it was done.
 abbrev pub DoesPart : (List ℕ → Option (List ℕ)) → Wish → Option (List ℕ) → Option (List ℕ)
@@ -42,15 +44,20 @@ AsksNothing words = (wish : Wish) → ¬ Asks words wish
 abbrev pub Answers : (List ℕ → Option (List ℕ)) → List (List ℕ) → Option (List ℕ) → Option (List ℕ)
     → Option (List ℕ) → Option (List ℕ) → Option (List ℕ) → Option (List ℕ) → ℕ → Type 0
 Answers holds words input left out out' notes notes' status =
-    ((wish : Wish) × Asks words wish × Does holds wish input left out out' status × Appends notes notes' [])
-    ⊎ (AsksNothing words × (status ≡ 2) × Appends out out' [] × Appends notes notes' (usage_of words))
+    ((wish : Wish) × Asks words wish × Does holds wish input left out out' status
+    × Appends notes notes' [])
+    ⊎ (AsksNothing words × (status ≡ 2) × Appends out out' []
+    × Appends notes notes' (usage_of words))
     ⊎ ((status ≡ 7) × Appends out out' [] × Appends notes notes' (codes "out of memory\n"))
 
 -- Where one failed, it has a front of what it was to get, and then the notes tell so if they can.
-abbrev pub BreaksOff : (List ℕ → Option (List ℕ)) → List (List ℕ) → Option (List ℕ) → Option (List ℕ)
+abbrev pub BreaksOff : (List ℕ → Option (List ℕ)) → List (List ℕ) → Option (List ℕ)
+    → Option (List ℕ)
     → Option (List ℕ) → Option (List ℕ) → Option (List ℕ) → Option (List ℕ) → Type 0
 BreaksOff holds words input left out out' notes notes' =
     ((wish : Wish) × Asks words wish × DoesPart holds wish input left out out'
     × AppendsPart notes notes' (codes "write fault\n"))
-    ⊎ (AsksNothing words × Appends out out' [] × AppendsParts notes notes' (usage_of words) (codes "write fault\n"))
-    ⊎ (Appends out out' [] × AppendsParts notes notes' (codes "out of memory\n") (codes "write fault\n"))
+    ⊎ (AsksNothing words × Appends out out' []
+    × AppendsParts notes notes' (usage_of words) (codes "write fault\n"))
+    ⊎ (Appends out out' []
+    × AppendsParts notes notes' (codes "out of memory\n") (codes "write fault\n"))

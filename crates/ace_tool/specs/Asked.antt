@@ -24,10 +24,14 @@ has_hyphen (first ∷ rest) = first == 45
 abbrev pub with_trace : Asked → List ℕ → Option Asked
 with_trace a word =
     if a.has_input && is_input word then None
-    else Some (record a { traces = a.traces ++ word ∷ []; has_input = a.has_input || is_input word })
+    else Some (record a {
+      traces = a.traces
+          ++ word ∷ [];
+      has_input = a.has_input || is_input word;
+    })
 
--- What is asked with one more word; none where it is wrong there. Of the words that begin with `-` only
--- `-` is a name before `--`, and there is no option.
+-- What is asked with one more word; none where it is wrong there. Of the words that begin with `-`
+-- only `-` is a name before `--`, and there is no option.
 abbrev pub with_more : List ℕ → Asked → Option Asked
 with_more word a =
     if a.names_only then with_trace a word

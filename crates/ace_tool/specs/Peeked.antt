@@ -14,5 +14,6 @@ abbrev pub front_of : {S : Type 0} {g : Ghosts S} → Peeked S g → List ℕ
 front_of p = drop p.given p.front.items
 
 -- the bytes that are left, where the source tells those that it has left
-abbrev pub left_of : {S : Type 0} {g : Ghosts S} → (S → Option (List ℕ)) → Peeked S g → Option (List ℕ)
+abbrev pub left_of : {S : Type 0} {g : Ghosts S} → (S → Option (List ℕ)) → Peeked S g
+    → Option (List ℕ)
 left_of left p = in_front (front_of p) (left p.source.now)

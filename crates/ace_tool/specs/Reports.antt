@@ -40,7 +40,8 @@ status_of_all (status ∷ rest) = first_of (1 ∷ 3 ∷ 8 ∷ 6 ∷ 4 ∷ 7 ∷ 
 -- a verdict, as `ace check` says it
 abbrev pub verdict_text : Verdict → List ℕ
 verdict_text (Accepted events) = codes "accepted " ++ decimal events
-verdict_text (Refused index rule) = codes "refused event " ++ decimal index ++ codes ": K" ++ decimal rule
+verdict_text (Refused index rule) =
+    codes "refused event " ++ decimal index ++ codes ": K" ++ decimal rule
 verdict_text (Malformed line reason) =
     codes "malformed line " ++ decimal line ++ codes ": F" ++ decimal (number_of_reason reason)
 verdict_text ReadFault = codes "read fault"

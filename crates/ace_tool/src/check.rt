@@ -23,7 +23,8 @@ use std::alloc::Global;
 
 /// The verdict on the trace that the source gives, of which these first bytes were taken.
 fn verdict_behind<S: Source>(alloc: Global, source: &mut S, front: ArrayVec<u8, FRONT>) -> Verdict
-    ensures verdict { IfSome (in_front front.items (S.left source.old)) (λ bytes. IsVerdict bytes result) }
+    ensures verdict { IfSome (in_front front.items (S.left source.old))
+        (λ bytes. IsVerdict bytes result) }
     // Where it is a read fault, the source failed.
     ensures fault { result ≡ ReadFault → (after : S) × Rose (S.faults source.old) (S.faults after) }
 {
@@ -35,7 +36,8 @@ fn verdict_behind<S: Source>(alloc: Global, source: &mut S, front: ArrayVec<u8, 
 #[tactic(auto, using(crate::proofs::Reading::reading))]
 fn read_trace<S: Source>(alloc: Global, source: &mut S) -> Report
     ensures read { IfSome (S.left source.old) (λ bytes. IsRead bytes result) }
-    ensures fault { result ≡ Told ReadFault → (after : S) × Rose (S.faults source.old) (S.faults after) }
+    ensures fault { result ≡ Told ReadFault → (after : S)
+        × Rose (S.faults source.old) (S.faults after) }
 {
     match take_front(source) {
         Ok(front) => match packing_of(front.as_slice()) {
@@ -62,7 +64,8 @@ fn open_trace<F: Folder>(alloc: Global, files: &F, name: &str) -> Report
 
 /// What is to be told of the trace of this name.
 fn check_trace<F: Folder, I: Source>(alloc: Global, files: &F, input: &mut I, name: &str) -> Report
-    ensures { IsNextBy (is_input name.now) (F.holds files.now name.now) (I.left input.old) result (I.left input.new) }
+    ensures { IsNextBy (is_input name.now) (F.holds files.now name.now) (I.left input.old) result
+        (I.left input.new) }
 {
     if is_input(name) {
         read_trace(alloc, input)

@@ -13,7 +13,8 @@ pub struct CheckCall<'a> {
 
 /// The names of the traces: where none is named, standard input is read.
 pub(crate) fn some_traces<'a>(mut traces: Vec<&'a str>) -> Result<Vec<&'a str>, NoMemory>
-    ensures { IfOk result (λ r. map (λ name. name.now) r.items ≡ some_traces (map (λ name. name.now) traces.entry.items)) }
+    ensures { IfOk result (λ r. map (λ name. name.now) r.items ≡ some_traces (map
+        (λ name. name.now) traces.entry.items)) }
 {
     if traces.is_empty() && traces.push("-").is_err() {
         return Err(NoMemory);

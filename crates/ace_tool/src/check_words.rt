@@ -60,7 +60,8 @@ impl<'a> CheckWords<'a> {
 
     /// Takes the name of a trace, and says whether it is right there.
     fn take_trace(&mut self, name: &'a str) -> Result<bool, NoMemory>
-        ensures { IfOk result (λ right. with_trace self.old name.entry.now ≡ if_right right self.new) }
+        ensures { IfOk result (λ right. with_trace self.old name.entry.now
+            ≡ if_right right self.new) }
     {
         let input = is_input(name);
         if self.has_input && input {
@@ -75,7 +76,8 @@ impl<'a> CheckWords<'a> {
 
     /// Takes the next word, and says whether it is right there.
     fn take(&mut self, word: &'a str) -> Result<bool, NoMemory>
-        ensures { IfOk result (λ right. with_more word.entry.now self.old ≡ if_right right self.new) }
+        ensures { IfOk result (λ right. with_more word.entry.now self.old
+            ≡ if_right right self.new) }
     {
         if self.names_only {
             self.take_trace(word)
@@ -95,7 +97,8 @@ impl<'a> CheckWords<'a> {
         alloc: Global,
         words: &'a [String],
     ) -> Result<Option<CheckWords<'a>>, NoMemory>
-        ensures { IfOk result (λ asked. with_all (Some nothing) (map string_bytes words.entry.now) ≡ asked) }
+        ensures { IfOk result
+            (λ asked. with_all (Some nothing) (map string_bytes words.entry.now) ≡ asked) }
     {
         let mut asked = CheckWords::new(alloc);
         for word in words {

@@ -9,8 +9,10 @@ use ace_verdict::laws::one_verdict_is_due;
 #[tactic(auto, using(crate::proofs::Sound::sound))]
 /// Where the status of many traces is 0, each has all that acceptance promises.
 pub fn accepted_traces_are_sound()
-    ensures { (holds : List ℕ → Option (List ℕ)) (input left : Option (List ℕ)) (checked : List Checked)
-        → AreRight holds input checked left → status_of_all (statuses_of checked) ≡ 0 → AreSound holds input checked }
+    ensures { (holds : List ℕ
+        → Option (List ℕ)) (input left : Option (List ℕ)) (checked : List Checked)
+        → AreRight holds input checked left → status_of_all (statuses_of checked) ≡ 0
+        → AreSound holds input checked }
 {
     one_verdict_is_due();
 }

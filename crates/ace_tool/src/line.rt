@@ -24,9 +24,11 @@ fn give_five<'a, K: Sink>(
     back: &'a str,
 ) -> Result<(), Failed>
     ensures whole { OnOk result (Appends (K.held out.old) (K.held out.new)
-        (file.entry.now ++ colon.entry.now ++ (front.entry.now ++ name.entry.now ++ back.entry.now) ++ codes "\n")) }
+        (file.entry.now ++ colon.entry.now ++ (front.entry.now ++ name.entry.now
+        ++ back.entry.now) ++ codes "\n")) }
     ensures part { OnErr result (AppendsPart (K.held out.old) (K.held out.new)
-        (file.entry.now ++ colon.entry.now ++ (front.entry.now ++ name.entry.now ++ back.entry.now) ++ codes "\n")) }
+        (file.entry.now ++ colon.entry.now ++ (front.entry.now ++ name.entry.now
+        ++ back.entry.now) ++ codes "\n")) }
     ensures cause { HasCause (K.faults out.old) (K.faults out.new) result }
 {
     give_pieces(out, &[file, colon, front, name, back, "\n"])
@@ -42,7 +44,8 @@ struct Said<'a> {
 
 /// What is said of the trace of the file of this name.
 fn said_of<'a>(name: &'a str, report: Report) -> Said<'a>
-    ensures { result.front.bytes ++ result.name.now ++ result.back.now ≡ report_text name.entry.now report }
+    ensures { result.front.bytes ++ result.name.now ++ result.back.now
+        ≡ report_text name.entry.now report }
 {
     match report {
         Report::Told { verdict } => Said {
@@ -63,9 +66,11 @@ fn said_of<'a>(name: &'a str, report: Report) -> Said<'a>
     }
 }
 
-/// What stands before a report in the line of the trace of this name, in two pieces, and the name that a report speaks of.
+/// What stands before a report in the line of the trace of this name, in two pieces, and the
+/// name that a report speaks of.
 fn before<'a>(name: &'a str) -> (&'a str, &'a str, &'a str)
-    ensures { (report : Report) → result.0.now ++ result.1.now ++ report_text result.2.now report ++ codes "\n"
+    ensures { (report : Report)
+        → result.0.now ++ result.1.now ++ report_text result.2.now report ++ codes "\n"
         ≡ line_of name.entry.now report }
 {
     if is_input(name) {
@@ -81,8 +86,10 @@ fn before<'a>(name: &'a str) -> (&'a str, &'a str, &'a str)
 ///
 /// `Failed` where the sink failed: a front of the line was given.
 pub(crate) fn give_line<K: Sink>(out: &mut K, name: &str, report: Report) -> Result<(), Failed>
-    ensures whole { OnOk result (Appends (K.held out.old) (K.held out.new) (line_of name.now report)) }
-    ensures part { OnErr result (AppendsPart (K.held out.old) (K.held out.new) (line_of name.now report)) }
+    ensures whole { OnOk result (Appends (K.held out.old) (K.held out.new)
+        (line_of name.now report)) }
+    ensures part { OnErr result (AppendsPart (K.held out.old) (K.held out.new)
+        (line_of name.now report)) }
     ensures cause { HasCause (K.faults out.old) (K.faults out.new) result }
 {
     let (file, colon, shown) = before(name);

@@ -11,7 +11,8 @@ pub(crate) const FRONT: usize = 4;
 
 /// The next byte of the source, if it has one left.
 fn next_byte<S: Source>(source: &mut S) -> Result<Option<u8>, Failed>
-    ensures taken { IfOk result (λ byte. Consumes (S.left source.old) (S.left source.new) (option_to_list byte)) }
+    ensures taken { IfOk result
+        (λ byte. Consumes (S.left source.old) (S.left source.new) (option_to_list byte)) }
     ensures end { IfOk result (λ byte. byte ≡ None → IsAtEnd (S.left source.new)) }
     ensures kept { OnErr result (Keeps (S.left source.old) (S.left source.new)) }
     ensures cause { HasCause (S.faults source.old) (S.faults source.new) result }
@@ -27,7 +28,8 @@ fn next_byte<S: Source>(source: &mut S) -> Result<Option<u8>, Failed>
 /// Takes the first bytes of the source: four, if it has as many.
 #[tactic(auto, using(crate::proofs::Peeking::peeking))]
 pub(crate) fn take_front<S: Source>(source: &mut S) -> Result<ArrayVec<u8, FRONT>, Failed>
-    ensures taken { IfOk result (λ front. Consumes (S.left source.old) (S.left source.new) front.items) }
+    ensures taken { IfOk result
+        (λ front. Consumes (S.left source.old) (S.left source.new) front.items) }
     ensures whole { IfOk result (λ front. length front.items < 4 → IsAtEnd (S.left source.new)) }
     ensures cause { HasCause (S.faults source.old) (S.faults source.new) result }
 {
@@ -87,7 +89,8 @@ impl<'a, S: Source> Source for Peeked<'a, S> {
     fn take(&mut self, into: &mut [u8]) -> Result<usize, Failed>
         requires { 0 < length into.old }
         ensures bytes { Takes (left_of S.left self.old) (left_of S.left self.new) result into.new }
-        ensures cause { HasCause (S.faults (source_of self.old).now) (S.faults (source_of self.new).now) result }
+        ensures cause { HasCause (S.faults (source_of self.old).now) (S.faults
+            (source_of self.new).now) result }
     {
         let front = self.rest();
         if front.is_empty() {

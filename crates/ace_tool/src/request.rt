@@ -70,7 +70,8 @@ fn check_request<'a>(alloc: Global, words: &'a [String]) -> Result<Option<Reques
 /// What one word asks that isn't `check`.
 #[tactic(auto, using(crate::proofs::Words::requests))]
 fn lone_request<'a>(word: &str) -> Option<Request<'a>>
-    ensures { word.now ≢ codes "check" → MatchOption result ((wish : Wish) → ¬ Asks (word.now ∷ []) wish)
+    ensures { word.now ≢ codes "check" → MatchOption result ((wish : Wish)
+        → ¬ Asks (word.now ∷ []) wish)
         (λ r. Asks (word.now ∷ []) (wish_of r)) }
 {
     match word {

@@ -34,7 +34,8 @@ impl Seen {
 
     /// There was one more.
     pub(crate) fn add(&mut self, report: Report)
-        ensures { (statuses : List ℕ) → HasSeen self.old statuses → HasSeen self.new (status_of report ∷ statuses) }
+        ensures { (statuses : List ℕ) → HasSeen self.old statuses
+            → HasSeen self.new (status_of report ∷ statuses) }
     {
         self.some = true;
         match status_of(report) {
@@ -49,7 +50,8 @@ impl Seen {
 
     /// The status of all of them.
     pub(crate) fn status(&self) -> u8
-        ensures value { (statuses : List ℕ) → HasSeen self.now statuses → result ≡ status_of_all statuses }
+        ensures value { (statuses : List ℕ) → HasSeen self.now statuses → result
+            ≡ status_of_all statuses }
         ensures bound { result ≤ 7 }
         ensures no_write_fault { result ≢ 5 }
     {

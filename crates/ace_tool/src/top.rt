@@ -29,7 +29,8 @@ fn answer<F: Folder, I: Source, K: Sink>(
         (I.left input.old) (I.left input.new) (K.held out.old) (K.held out.new)) }
     ensures part { OnErr result (DoesPart (F.holds files.now) (wish_of request.entry)
         (I.left input.old) (I.left input.new) (K.held out.old) (K.held out.new)) }
-    ensures untouched { ((check : CheckAsked) → wish_of request.entry ≢ Check check) → input.new ≡ input.old }
+    ensures untouched { ((check : CheckAsked) → wish_of request.entry ≢ Check check) → input.new
+        ≡ input.old }
     ensures no_write_fault { IfOk result (λ status. status ≢ 5) }
     ensures cause { HasCause (K.faults out.old) (K.faults out.new) result }
 {
@@ -72,24 +73,34 @@ pub fn acetool<F: Folder, I: Source, K: Sink, E: Sink>(
     out: &mut K,
     notes: &mut E,
 ) -> u8
-    // Where no output failed, what the words ask was done, or they ask nothing and the usage was told.
-    ensures answer { result ≢ 5 → Answers (F.holds files.now) (map string_bytes words.now) (I.left input.old) (I.left input.new)
+    // Where no output failed, what the words ask was done, or they ask nothing and the usage
+    // was told.
+    ensures answer { result ≢ 5
+        → Answers (F.holds files.now) (map string_bytes words.now) (I.left input.old)
+        (I.left input.new)
         (K.held out.old) (K.held out.new) (E.held notes.old) (E.held notes.new) result }
 
-    // Where an output failed, each has a front of what such an answer gives it, and then the notes tell so if they can.
-    ensures broken_off { result ≡ 5 → BreaksOff (F.holds files.now) (map string_bytes words.now) (I.left input.old) (I.left input.new)
+    // Where an output failed, each has a front of what such an answer gives it, and then the
+    // notes tell so if they can.
+    ensures broken_off { result ≡ 5
+        → BreaksOff (F.holds files.now) (map string_bytes words.now) (I.left input.old)
+        (I.left input.new)
         (K.held out.old) (K.held out.new) (E.held notes.old) (E.held notes.new) }
-    ensures told { result ≡ 5 → E.faults notes.old < 2 ^ 64 - 1 → E.faults notes.new ≡ E.faults notes.old
+    ensures told { result ≡ 5 → E.faults notes.old < 2 ^ 64 - 1 → E.faults notes.new
+        ≡ E.faults notes.old
         → Appends (E.held notes.old) (E.held notes.new) (codes "write fault\n") }
 
     // A write fault is answered only where an output failed, and wherever one failed.
     ensures write_fault { result ≡ 5
-        → Rose (K.faults out.old) (K.faults out.new) ⊎ Rose (E.faults notes.old) (E.faults notes.new) }
-    ensures output_failed { (K.faults out.old < K.faults out.new) ⊎ (E.faults notes.old < E.faults notes.new)
+        → Rose (K.faults out.old) (K.faults out.new)
+        ⊎ Rose (E.faults notes.old) (E.faults notes.new) }
+    ensures output_failed { (K.faults out.old < K.faults out.new)
+        ⊎ (E.faults notes.old < E.faults notes.new)
         → result ≡ 5 }
 
     // Where the words ask for no check, standard input isn't touched.
-    ensures untouched { ((check : CheckAsked) → ¬ Asks (map string_bytes words.now) (Check check)) → input.new ≡ input.old }
+    ensures untouched { ((check : CheckAsked)
+        → ¬ Asks (map string_bytes words.now) (Check check)) → input.new ≡ input.old }
 {
     match request_of(alloc, words) {
         Ok(Some(request)) => conclude(answer(alloc, request, files, input, out), notes),
@@ -98,12 +109,15 @@ pub fn acetool<F: Folder, I: Source, K: Sink, E: Sink>(
     }
 }
 
-/// Tells that there was no memory for the words, where `acetool` can't be called for want of them, and returns the status.
+/// Tells that there was no memory for the words, where `acetool` can't be called for want of
+/// them, and returns the status.
 pub fn tell_no_memory<E: Sink>(notes: &mut E) -> u8
     ensures status { (result ≡ 7) ⊎ (result ≡ 5) }
-    ensures given { result ≡ 7 → Appends (E.held notes.old) (E.held notes.new) (codes "out of memory\n") }
+    ensures given { result ≡ 7
+        → Appends (E.held notes.old) (E.held notes.new) (codes "out of memory\n") }
     ensures part { result ≡ 5
-        → AppendsParts (E.held notes.old) (E.held notes.new) (codes "out of memory\n") (codes "write fault\n") }
+        → AppendsParts (E.held notes.old) (E.held notes.new) (codes "out of memory\n")
+        (codes "write fault\n") }
     ensures write_fault { result ≡ 5 → Rose (E.faults notes.old) (E.faults notes.new) }
     ensures output_failed { E.faults notes.old < E.faults notes.new → result ≡ 5 }
 {

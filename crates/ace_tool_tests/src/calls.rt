@@ -5,7 +5,8 @@ use ace_tool::acetool;
 use std::alloc::Global;
 use std::test::Fail;
 
-/// Words with a space between, the status, what the standard output gets, and the first line of the notes.
+/// Words with a space between, the status, what the standard output gets, and the first line of
+/// the notes.
 type Row = (&'static str, u8, &'static str, &'static str);
 
 /// Standard input is a trace of two ports and no event.

@@ -26,7 +26,8 @@ impl Source for Opened {
     }
 }
 
-/// Files of some names, in pieces of three bytes. One fails at its first byte, one later, and one may not be read.
+/// Files of some names, in pieces of three bytes. One fails at its first byte, one later, and
+/// one may not be read.
 #[derive(Drop)]
 pub struct Shelf {
     pub alloc: Global,

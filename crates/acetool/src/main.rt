@@ -1,4 +1,5 @@
-//! The program `acetool`: the top call over the words of the command line, files and the standard streams.
+//! The program `acetool`: the top call over the words of the command line, files and the
+//! standard streams.
 #![tactic(auto)]
 
 use ace_call::read_words;
