@@ -1,4 +1,5 @@
 // Calls that a signal interrupts some times, as often as they are made at most, and once more.
+ghost use Rattle.std.specs.Prelude.{◌≡◌, IfOk};
 
 use ace_retry::{Patient, TRIES};
 use std::io::{Error, ErrorKind, Read, Result, Write};
@@ -12,7 +13,9 @@ struct Disturbed {
 
 impl Disturbed {
     /// Whether the call goes through.
-    fn call(&mut self) -> Result<usize> {
+    fn call(&mut self) -> Result<usize>
+        ensures { IfOk result (λ moved. moved ≡ 1) }
+    {
         if self.times == 0 {
             return Ok(1);
         }
