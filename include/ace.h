@@ -64,7 +64,8 @@ enum ace_outcome { ACE_OK = 0, ACE_SKIP = 1, ACE_FAIL = 2 };
 typedef struct ace_event {
   uint8_t kind;    /* enum ace_kind */
   uint8_t port;    /* from 0; in version 1 at most 15 */
-  uint8_t id;      /* ARID, RID, AWID, BID: 0 to 15; of G and M the AxID of the transaction */
+  uint8_t id;      /* ARID, RID, AWID, BID: 0 to 255, of which a trace of text has 0 to 15; of G and M
+                      the AxID of the transaction */
   uint8_t snoop;   /* ARSNOOP, ACSNOOP: 0 to 15; AWSNOOP: 0 to 7 */
   uint8_t domain;  /* ARDOMAIN, AWDOMAIN: 0 to 3 */
   uint8_t bar;     /* ARBAR, AWBAR: 0 to 3 */
@@ -75,8 +76,9 @@ typedef struct ace_event {
                       of G and M an enum ace_channel */
   uint8_t index;   /* of L the word of the line, 0 to 3; of OP an enum ace_outcome */
   uint16_t number; /* WSTRB: bit n belongs to byte n of the beat; of OP its number, from 0 */
-  uint32_t addr;   /* a byte address, of a line that of its first byte, a multiple of 64; of a DVM
-                      message the word of the part */
+  uint64_t addr;   /* ARADDR, AWADDR, ACADDR, the address of S, L, D and MEM: of a line that of its
+                      first byte, a multiple of 64, of 64 bits; of a barrier its address, and of a DVM
+                      message the word of the part, below 2^32 */
   uint64_t strobe; /* of D: bit n is 1 where byte n of the line is stored */
   uint8_t data[64]; /* bytes in order of address: the 64 of a line, or the 16 of a beat or a word */
 } ace_event;
@@ -84,9 +86,10 @@ typedef struct ace_event {
 enum ace_status {
   ACE_FINE = 0,            /* no event that was fed breaks a rule: the trace so far is sound */
   ACE_REFUSED = 1,         /* an event breaks a rule, and none before it does */
-  ACE_OUT_OF_RANGE = 2,    /* the kind of an event, or a field that it has, is no value of a trace;
-                              of ace_open: these are no ports of a trace */
-  ACE_TOO_MANY_LINES = 3,  /* an event breaks no rule, and its transaction names the 4,097th line */
+  ACE_OUT_OF_RANGE = 2,    /* the kind of an event, or a field that it has, has none of the values
+                              above; of ace_open: these are no ports of a trace */
+  ACE_TOO_MANY_LINES = 3,  /* an event breaks no rule, and its transaction names one line more than
+                              were asked for; or an event uses the 67,108,865th line */
   ACE_NO_MEMORY = 4,       /* there was no memory for an event; of ace_open: for a checker */
   ACE_TOO_MANY_EVENTS = 5, /* 2^64 - 2 events were fed */
   ACE_NOT_OPEN = 6         /* the handle is closed */
@@ -103,18 +106,21 @@ typedef struct ace_answer { uint64_t event; uint8_t status, rule; } ace_answer;
 #endif
 ACE_HOLDS(sizeof(ace_checker) == 16 && offsetof(ace_checker, live) == 8);
 ACE_HOLDS(sizeof(ace_answer) == 16 && offsetof(ace_answer, rule) == 9);
-ACE_HOLDS(sizeof(ace_event) == 88 && offsetof(ace_event, index) == 9);
-ACE_HOLDS(offsetof(ace_event, number) == 10 && offsetof(ace_event, addr) == 12);
-ACE_HOLDS(offsetof(ace_event, strobe) == 16 && offsetof(ace_event, data) == 24);
+ACE_HOLDS(sizeof(ace_event) == 96 && offsetof(ace_event, index) == 9);
+ACE_HOLDS(offsetof(ace_event, number) == 10 && offsetof(ace_event, addr) == 16);
+ACE_HOLDS(offsetof(ace_event, strobe) == 24 && offsetof(ace_event, data) == 32);
 
 /* Opens the checker of the empty trace of version 1 or 2 with so many ports (1 to 32), of which those
    with a bit in `ace` are ACE ports and the others ACE-Lite: at most 16 of a kind, in version 1 at
-   most 8. What the handle had is closed first. Where the status isn't ACE_FINE the handle is closed.
-   The status is ACE_FINE, ACE_OUT_OF_RANGE or ACE_NO_MEMORY. */
-uint8_t ace_open(ace_checker *checker, uint8_t version, uint8_t ports, uint32_t ace);
+   most 8. Its transactions may name so many lines, or by 0 as many as there is memory for; `ace check`
+   takes 4096. What the handle had is closed first. Where the status isn't ACE_FINE the handle is
+   closed. The status is ACE_FINE, ACE_OUT_OF_RANGE or ACE_NO_MEMORY. */
+uint8_t ace_open(ace_checker *checker, uint8_t version, uint8_t ports, uint32_t ace, size_t lines);
 
-/* Looks at the next event of the trace. The first status that isn't ACE_FINE is the status for good:
-   from then on events aren't looked at. */
+/* Looks at the next event of the trace. The lines get names in the order in which events use them:
+   the first has address 0 in the trace that is checked, the next one 64, and so on, and the bytes
+   within a line stay. So MEMs may come in any order of their lines, each of one line. The first
+   status that isn't ACE_FINE is the status for good: from then on events aren't looked at. */
 uint8_t ace_feed(ace_checker *checker, const ace_event *event);
 
 /* Looks at the next events, one after the other, up to the first that isn't fine: how many were. If

@@ -13,10 +13,11 @@ namespace ace {
 class Checker {
  public:
   // The checker of the empty trace. `ports` has a letter for each port, A for ACE and L for ACE-Lite,
-  // as the second line of a trace. Throws std::invalid_argument where these are no ports of a trace.
-  explicit Checker(const std::string &ports, std::uint8_t version = 2) {
+  // as the second line of a trace. Transactions may name so many lines, or by 0 as many as there is
+  // memory for. Throws std::invalid_argument where these are no ports of a trace.
+  explicit Checker(const std::string &ports, std::uint8_t version = 2, std::size_t lines = 0) {
     const std::uint8_t count = ports.size() > 32 ? 33 : static_cast<std::uint8_t>(ports.size());
-    switch (ace_open(&handle_, version, count, ace_ports(ports))) {
+    switch (ace_open(&handle_, version, count, ace_ports(ports), lines)) {
       case ACE_FINE: return;
       case ACE_NO_MEMORY: throw std::bad_alloc();
       default: throw std::invalid_argument("no ports of a trace: " + ports);

@@ -44,7 +44,7 @@ class Event(ctypes.Structure):
     _fields_ = [
         ('kind', ctypes.c_uint8), ('port', ctypes.c_uint8), ('id', ctypes.c_uint8), ('snoop', ctypes.c_uint8),
         ('domain', ctypes.c_uint8), ('bar', ctypes.c_uint8), ('resp', ctypes.c_uint8), ('state', ctypes.c_uint8),
-        ('flag', ctypes.c_uint8), ('index', ctypes.c_uint8), ('number', ctypes.c_uint16), ('addr', ctypes.c_uint32),
+        ('flag', ctypes.c_uint8), ('index', ctypes.c_uint8), ('number', ctypes.c_uint16), ('addr', ctypes.c_uint64),
         ('strobe', ctypes.c_uint64), ('data', ctypes.c_uint8 * 64),
     ]
 
@@ -77,7 +77,7 @@ def _load(path: Optional[str]) -> ctypes.CDLL:
     here = os.path.dirname(os.path.abspath(__file__))
     library = ctypes.CDLL(path or os.environ.get('ACE_LIBRARY') or os.path.join(here, '..', 'lib', 'libace.so'))
     handle = ctypes.POINTER(_Handle)
-    library.ace_open.argtypes = [handle, ctypes.c_uint8, ctypes.c_uint8, ctypes.c_uint32]
+    library.ace_open.argtypes = [handle, ctypes.c_uint8, ctypes.c_uint8, ctypes.c_uint32, ctypes.c_size_t]
     library.ace_open.restype = ctypes.c_uint8
     library.ace_feed.argtypes = [handle, ctypes.POINTER(Event)]
     library.ace_feed.restype = ctypes.c_uint8
@@ -103,15 +103,16 @@ def event(kind: Kind, data: bytes = b'', **fields: int) -> Event:
 
 
 class Checker:
-    """A checker of one trace. `ports` has a letter for each port, A for ACE and L for ACE-Lite."""
+    """A checker of one trace. `ports` has a letter for each port, A for ACE and L for ACE-Lite. Transactions may name so many
+    `lines`, or by 0 as many as there is memory for."""
 
-    def __init__(self, ports: str, version: int = 2, library: Optional[str] = None) -> None:
+    def __init__(self, ports: str, version: int = 2, library: Optional[str] = None, lines: int = 0) -> None:
         self._library = _load(library)
         self._handle = _Handle()
         if len(ports) > 32 or set(ports) - set('AL') or version not in (1, 2):
             raise ValueError(f'no ports of a trace: {ports}')
         ace = sum(1 << port for port, letter in enumerate(ports) if letter == 'A')
-        status = self._library.ace_open(self._handle, version, len(ports), ace)
+        status = self._library.ace_open(self._handle, version, len(ports), ace, lines)
         if status == Status.NO_MEMORY:
             raise MemoryError
         if status != Status.FINE:

@@ -11,7 +11,7 @@ extern "C" {
 static ace_checker checker = ACE_CLOSED;
 
 int ace_live_open(int version, int count, int ace_ports) {
-  return ace_open(&checker, (uint8_t)version, (uint8_t)count, (uint32_t)ace_ports);
+  return ace_open(&checker, (uint8_t)version, (uint8_t)count, (uint32_t)ace_ports, 0);
 }
 
 int ace_live_feed(unsigned char kind, unsigned char port, unsigned char id, unsigned int addr, unsigned char snoop, unsigned char domain,

@@ -44,7 +44,7 @@ static void feed_changed(const struct trace *trace) {
   ace_event kept = trace->events[place];
   change(&trace->events[place]);
   ace_checker checker = ACE_CLOSED;
-  uint8_t status = ace_open(&checker, (uint8_t)trace->version, (uint8_t)trace->ports, trace->ace);
+  uint8_t status = ace_open(&checker, (uint8_t)trace->version, (uint8_t)trace->ports, trace->ace, 4096);
   while (at < trace->count && status == ACE_FINE) {
     int fits = in_range(trace->version, &trace->events[at]);
     status = ace_feed(&checker, &trace->events[at++]);
@@ -77,7 +77,7 @@ static long open_headers(void) {
         int right = (version == 1 || version == 2) && ports >= 1 && ports <= 32 && (ports == 32 || ace >> ports == 0) &&
                     aces <= most && ports - aces <= most;
         ace_checker checker = ACE_CLOSED;
-        uint8_t status = ace_open(&checker, (uint8_t)version, (uint8_t)ports, ace);
+        uint8_t status = ace_open(&checker, (uint8_t)version, (uint8_t)ports, ace, (size_t)rand() % 3);
         want(status == (right ? ACE_FINE : ACE_OUT_OF_RANGE), "a header is opened exactly where it is one");
         ace_close(&checker);
       }
@@ -90,7 +90,7 @@ int main(int count, char **words) {
   for (int at = 3; at < count; at++) {
     struct trace trace = read_trace(words[at]);
     ace_checker checker = ACE_CLOSED;
-    int opens = trace.version && ace_open(&checker, (uint8_t)trace.version, (uint8_t)trace.ports, trace.ace) == ACE_FINE;
+    int opens = trace.version && ace_open(&checker, (uint8_t)trace.version, (uint8_t)trace.ports, trace.ace, 4096) == ACE_FINE;
     ace_close(&checker);
     for (int turn = 0; opens && trace.count && turn < atoi(words[2]); turn++) feed_changed(&trace);
     free(trace.events);

@@ -5,7 +5,7 @@
 
 static ace_answer feed_each(const struct trace *trace) {
   ace_checker checker = ACE_CLOSED;
-  uint8_t status = ace_open(&checker, (uint8_t)trace->version, (uint8_t)trace->ports, trace->ace);
+  uint8_t status = ace_open(&checker, (uint8_t)trace->version, (uint8_t)trace->ports, trace->ace, 4096);
   if (status != ACE_FINE) return (ace_answer){0, status, 0};
   for (size_t at = 0; at < trace->count && status == ACE_FINE; at++) {
     status = ace_feed(&checker, &trace->events[at]);
@@ -23,7 +23,7 @@ static ace_answer feed_each(const struct trace *trace) {
 
 static ace_answer feed_pieces(const struct trace *trace, size_t piece) {
   ace_checker checker = ACE_CLOSED;
-  uint8_t status = ace_open(&checker, (uint8_t)trace->version, (uint8_t)trace->ports, trace->ace);
+  uint8_t status = ace_open(&checker, (uint8_t)trace->version, (uint8_t)trace->ports, trace->ace, 4096);
   if (status != ACE_FINE) return (ace_answer){0, status, 0};
   for (size_t at = 0; at < trace->count; at += piece) {
     size_t count = trace->count - at < piece ? trace->count - at : piece;
@@ -50,12 +50,12 @@ static void tell_times(const char *name, int times) {
   for (int turn = 0; turn < times; turn++) {
     ace_checker checker = ACE_CLOSED;
     double began = seconds();
-    ace_open(&checker, (uint8_t)trace.version, (uint8_t)trace.ports, trace.ace);
+    ace_open(&checker, (uint8_t)trace.version, (uint8_t)trace.ports, trace.ace, 4096);
     for (size_t at = 0; at < trace.count && ace_feed(&checker, &trace.events[at]) == ACE_FINE; at++);
     double took = seconds() - began;
     if (took < one_by_one) one_by_one = took;
     began = seconds();
-    ace_open(&checker, (uint8_t)trace.version, (uint8_t)trace.ports, trace.ace);
+    ace_open(&checker, (uint8_t)trace.version, (uint8_t)trace.ports, trace.ace, 4096);
     ace_feed_many(&checker, trace.events, trace.count);
     took = seconds() - began;
     if (took < at_once) at_once = took;

@@ -6,7 +6,7 @@
 static ace_answer verdict(const trace &given) {
   std::string ports;
   for (int port = 0; port < given.ports; port++) ports += given.ace >> port & 1 ? 'A' : 'L';
-  ace::Checker first(ports, static_cast<std::uint8_t>(given.version));
+  ace::Checker first(ports, static_cast<std::uint8_t>(given.version), 4096);
   ace::Checker checker(std::move(first));
   if (first.verdict().status != ACE_NOT_OPEN) std::printf("moved from, and open: ");
   const std::size_t half = checker.feed(given.events, given.count / 2);

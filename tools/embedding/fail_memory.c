@@ -40,7 +40,7 @@ int main(int count, char **words) {
     long before = live;
     left = turn;
     ace_checker checker = ACE_CLOSED;
-    uint8_t opened = ace_open(&checker, (uint8_t)trace.version, (uint8_t)trace.ports, trace.ace), status = opened;
+    uint8_t opened = ace_open(&checker, (uint8_t)trace.version, (uint8_t)trace.ports, trace.ace, 4096), status = opened;
     for (size_t at = 0; at < trace.count && status == ACE_FINE; at++) status = ace_feed(&checker, &trace.events[at]);
     int failed = turn >= 0 && left == 0;
     left = -1;

@@ -9,7 +9,7 @@ static ace_checker handed = ACE_CLOSED;
 
 static void *check_all(void *place) {
   ace_checker checker = ACE_CLOSED;
-  ace_open(&checker, (uint8_t)trace.version, (uint8_t)trace.ports, trace.ace);
+  ace_open(&checker, (uint8_t)trace.version, (uint8_t)trace.ports, trace.ace, 4096);
   for (size_t at = 0; at < trace.count && ace_feed(&checker, &trace.events[at]) == ACE_FINE; at++);
   *(ace_answer *)place = ace_verdict(&checker);
   ace_close(&checker);
@@ -28,7 +28,7 @@ int main(int count, char **words) {
   pthread_t threads[4], other;
   for (int at = 0; at < 4; at++)
     if (pthread_create(&threads[at], NULL, check_all, &answers[at])) return 2;
-  ace_open(&handed, (uint8_t)trace.version, (uint8_t)trace.ports, trace.ace);
+  ace_open(&handed, (uint8_t)trace.version, (uint8_t)trace.ports, trace.ace, 4096);
   for (size_t at = 0; at < 4; at++) {
     if (pthread_create(&other, NULL, check_quarter, &at)) return 2;
     pthread_join(other, NULL);

@@ -1,9 +1,10 @@
 // The names of the lines that events use.
-ghost use Rattle.std.specs.Prelude.{◌≡◌, ◌≤◌, ◌<◌, ◌^◌, ◌∷◌, ℕ, List, [], Some, None, Err, IfOk, length, true, is_some};
+ghost use Rattle.std.specs.Prelude.{◌≡◌, ◌≤◌, ◌<◌, ◌-◌, ◌^◌, ◌∷◌, ℕ, List, [], IfSome, All, Some, None, Err, IfOk, length, true, is_some};
 ghost use Rattle.ace_event.specs.declared.event.Event.{Event};
 ghost use Rattle.ace_model.specs.AddressRules.{line_address};
 ghost use Rattle.ace_c.specs.Names.{line_used, most_names, name_in, named_event, with_address, with_line};
-ghost use Rattle.ace_c.specs.Naming.{NamesStand};
+ghost use Rattle.ace_c.specs.Naming.{IsRecent, NamesStand};
+ghost use Rattle.ace_c.specs.declared.names.Recent.{Recent};
 ghost use Rattle.ace_c.specs.Range.{InRange};
 
 use ace_codes::{read_ar, read_aw};
@@ -69,10 +70,40 @@ fn short(addr: u64) -> u32
     u32::try_from(addr).unwrap_or(0)
 }
 
-/// The lines that have names, and which.
+/// How many names are remembered.
+const RECENT: usize = 1024;
+
+/// A line with its name, or no line: a number that is no name.
+#[derive(Clone, Copy)]
+pub struct Recent {
+    line: u64,
+    name: u32,
+}
+
+/// Where the name of the line is remembered, if it is.
+#[inline(always)]
+fn place_of(line: u64) -> usize
+    ensures { result < 1024 }
+{
+    (line % 1024) as usize
+}
+
+/// Nothing is remembered.
+fn nothing_recent() -> [Recent; RECENT]
+    ensures { (lines : List ℕ) → All (IsRecent lines) result }
+{
+    [Recent {
+        line: 0,
+        name: u32::MAX,
+    }; RECENT]
+}
+
+/// The lines that have names, and which. For each place the line that was asked for last is
+/// remembered, as a look-up of all lines takes longer.
 #[derive(Drop)]
 pub struct Names {
     places: BTreeMap<u64, u32>,
+    recent: [Recent; RECENT],
 }
 
 impl Names {
@@ -82,6 +113,7 @@ impl Names {
     {
         Names {
             places: BTreeMap::new(alloc),
+            recent: nothing_recent(),
         }
     }
 
@@ -123,10 +155,52 @@ impl Names {
         ensures no_memory { (lines : List ℕ) → NamesStand self.old lines
             → result ≡ Err Nameless.NoMemory → name_in lines line ≡ None }
     {
-        match self.places.get(&line) {
-            Some(name) => Ok(*name),
-            None => self.name_new(line),
+        match self.recall(line) {
+            Some(name) => Ok(name),
+            None => self.search(line),
         }
+    }
+
+    /// The name of the line, if it is remembered.
+    #[inline(always)]
+    fn recall(&self, line: u64) -> Option<u32>
+        ensures { (lines : List ℕ) → NamesStand self.now lines
+            → IfSome result (λ k. (name_in lines line ≡ Some k) × (k < most_names)) }
+    {
+        let kept = self.recent[place_of(line)];
+        if kept.line == line && kept.name < MOST_NAMES as u32 {
+            Some(kept.name)
+        } else {
+            None
+        }
+    }
+
+    /// Remembers the name of the line.
+    #[inline(always)]
+    fn remember(&mut self, line: u64, name: u32)
+        ensures { (lines : List ℕ) → NamesStand self.old lines → name_in lines line ≡ Some name
+            → NamesStand self.new lines }
+    {
+        self.recent[place_of(line)] = Recent { line, name };
+    }
+
+    /// The same of a line whose name isn't remembered.
+    #[inline(never)]
+    fn search(&mut self, line: u64) -> Result<u32, Nameless>
+        ensures named { (lines : List ℕ) → NamesStand self.old lines → IfOk result (λ k.
+            (name_in (with_line (Some line) lines) line ≡ Some k) × (k < most_names)
+            × NamesStand self.new (with_line (Some line) lines)) }
+        ensures all_taken { (lines : List ℕ) → NamesStand self.old lines
+            → result ≡ Err Nameless.AllTaken
+            → (name_in lines line ≡ None) × (most_names ≤ length lines) }
+        ensures no_memory { (lines : List ℕ) → NamesStand self.old lines
+            → result ≡ Err Nameless.NoMemory → name_in lines line ≡ None }
+    {
+        let Some(name) = self.places.get(&line).copied() else {
+            return self.name_new(line);
+        };
+        self.remember(line, name);
+        Ok(name)
     }
 
     /// A name for a line that has none.
