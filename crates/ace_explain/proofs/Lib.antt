@@ -5,3 +5,6 @@ pub mod AddressLetters
 pub mod BarrierLetters
 pub mod PartLetters
 pub mod SnoopLetters
+-- The clauses of the rules of snoop answers and their data, and of R and RK.
+pub mod Kept
+pub mod AnswerLetters

@@ -3,4 +3,5 @@
 #![tactic(auto)]
 
 mod address_clauses;
+mod answer_clauses;
 mod snoop_clauses;
