@@ -8,3 +8,4 @@ pub mod SnoopLetters
 -- The clauses of the rules of snoop answers and their data, and of R and RK.
 pub mod Kept
 pub mod AnswerLetters
+pub mod RowLetters
