@@ -9,3 +9,4 @@ pub mod SnoopLetters
 pub mod Kept
 pub mod AnswerLetters
 pub mod RowLetters
+pub mod ReadLetters

@@ -4,4 +4,5 @@
 
 mod address_clauses;
 mod answer_clauses;
+mod read_clauses;
 mod snoop_clauses;
