@@ -10,3 +10,4 @@ pub mod Kept
 pub mod AnswerLetters
 pub mod RowLetters
 pub mod ReadLetters
+pub mod EndLetters

@@ -36,7 +36,7 @@ fn answered_kind(ports: &PortCheck, port: u8) -> Option<SnoopKind>
 }
 
 /// The rule that is told has this number.
-fn is_rule(told: Option<u8>, number: u8) -> bool
+pub(crate) fn is_rule(told: Option<u8>, number: u8) -> bool
     ensures { result ≡ is_some_and told (λ k. k == number) }
 {
     match told {

@@ -4,5 +4,6 @@
 
 mod address_clauses;
 mod answer_clauses;
+mod end_clauses;
 mod read_clauses;
 mod snoop_clauses;
