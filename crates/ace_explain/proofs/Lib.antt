@@ -11,3 +11,4 @@ pub mod AnswerLetters
 pub mod RowLetters
 pub mod ReadLetters
 pub mod EndLetters
+pub mod BitLetters

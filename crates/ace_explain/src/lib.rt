@@ -4,6 +4,7 @@
 
 mod address_clauses;
 mod answer_clauses;
+mod bit_clauses;
 mod end_clauses;
 mod read_clauses;
 mod snoop_clauses;

@@ -17,7 +17,7 @@ use ace_portck::PortCheck;
 use ace_sysck::SysCheck;
 
 /// The outstanding read of the port under the identifier.
-fn named_read(ports: &PortCheck, port: u8, id: u8) -> Option<Transaction>
+pub(crate) fn named_read(ports: &PortCheck, port: u8, id: u8) -> Option<Transaction>
     ensures { (r : Recording) → PortsTell ports.now r
         → result ≡ outstanding r.header r.past port Read id }
 {
