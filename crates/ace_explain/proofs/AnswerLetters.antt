@@ -1,5 +1,5 @@
 -- The clauses of K15 to K17 that are named.
-use Rattle.std.proofs.Common.{◌≡◌, ℕ, ◌<◌, Bool, true, false, not, ◌&&◌, ◌||◌, ◌==◌, if◌then◌else◌, Option, Some, None, is_some, is_none, refl, sym, ap, ◌∙◌, arith}
+use Rattle.std.proofs.Common.{◌≡◌, ℕ, Bool, true, false, not, ◌&&◌, ◌==◌, if◌then◌else◌, Option, Some, None, is_some, refl, ap, ◌∙◌, arith}
 use Rattle.ace_codes.specs.Responses.{passes_dirty}
 use Rattle.ace_codes.specs.Snoops.{ac_kind_of}
 use Rattle.ace_codes.specs.declared.kind.SnoopKind.{SnoopKind}
@@ -20,7 +20,6 @@ use Rattle.ace_model.specs.States.{state_of}
 use Rattle.ace_model.specs.Trace.{Trace, implies}
 use Rattle.ace_portck.specs.Targets.{Recording, sending}
 use Rattle.ace_portck.proofs.SnoopSteps.{sent-sending}
-use Rattle.ace_clauses.specs.Clauses.{clause_of}
 use Rattle.ace_clauses.specs.SnoopClauses.{is_hit}
 use Rattle.ace_clauses.specs.declared.letters.Letter.{Letter}
 use Rattle.ace_clauses.specs.declared.letters.Letter.TheVariants as letter
@@ -55,7 +54,7 @@ module _ (r : Recording) where
       Told update hit goes passes drops row =
           if implies update (implies hit goes)
           then (if implies update (implies hit (not passes))
-            then (if implies update (implies hit (not drops) && row) then None else Some letter.C) else Some letter.B)
+          then (if implies update (implies hit (not drops) && row) then None else Some letter.C) else Some letter.B)
           else Some letter.A
 
       to_wait : (update hit passes drops row : Bool) → row ≡ true → is_some (Told update hit false passes drops row) ≡ true

@@ -116,7 +116,7 @@ module _ (r : Recording) where
       pub wrong_end : (is_make_unique k && not x.stored) ≡ false → Names r (Rk p st) 23 letter.A
       wrong_end has least =
           let kept : implies (is_make_unique k) (has_store r.header r.past x.transaction.port x.transaction.id) ≡ true =
-            ap (implies (is_make_unique k)) (sym stored) ∙ has_it (is_make_unique k) x.stored has in
+          ap (implies (is_make_unique k)) (sym stored) ∙ has_it (is_make_unique k) x.stored has in
           rw (ack, kind, line, kept)
           (last_one _ letter.A (rw (ack, kind, line, kept) at (has_clause r.header r.past (Rk p st) 23 least)))
 
@@ -150,8 +150,8 @@ module _ (r : Recording) where
 
         told : clause_of r.header r.past (Rk p st) 23
             ≡ (if ends_in r.header r.past st x.transaction k
-              then (if implies (is_make_unique k) (has_store r.header r.past x.transaction.port x.transaction.id) then None else Some letter.B)
-              else Some letter.A)
+            then (if implies (is_make_unique k) (has_store r.header r.past x.transaction.port x.transaction.id) then None else Some letter.B)
+            else Some letter.A)
         told = rw (ack, kind, line) refl
 
         pub early_end : ends_read MakeUnique (state_of r.header r.past x.transaction.port x.transaction.addr) (is_shared x.response) (passes_dirty x.response) (has_failed r.past x.transaction) st ≡ true

@@ -54,7 +54,7 @@ module _ (r : Recording) where
     Told lock store passed one zero =
         if implies (Okay lock store passed) one
         then (if implies ((lock && store) && not ((lock && store) && passed)) zero
-          then (if implies (not lock) zero then None else Some letter.C) else Some letter.B)
+        then (if implies (not lock) zero then None else Some letter.C) else Some letter.B)
         else Some letter.A
 
     as_okay : (lock store passed one zero : Bool) → Okay lock store passed ≡ true → is_some (Told lock store passed one zero) ≡ true

@@ -1,6 +1,5 @@
 -- The clauses of K15 that are named, by the snoop that a CR answers and by what its port holds.
-use Rattle.std.proofs.Common.{◌≡◌, ℕ, ◌+◌, Bool, true, false, not, ◌&&◌, ◌||◌, ◌==◌, if◌then◌else◌, Option, Some, None, is_some, is_none, refl, sym, ap, ◌∙◌, arith}
-use Rattle.ace_codes.specs.Snoops.{ac_kind_of}
+use Rattle.std.proofs.Common.{◌≡◌, ℕ, Bool, true, false, not, ◌||◌, ◌==◌, if◌then◌else◌, Option, Some, None, refl, sym, ap, ◌∙◌}
 use Rattle.ace_codes.specs.declared.kind.SnoopKind.{SnoopKind}
 use Rattle.ace_codes.specs.declared.kind.SnoopKind.TheVariants.{MakeInvalid, DvmComplete, DvmMessage}
 use Rattle.ace_codes.specs.declared.state.LineState.{LineState}

@@ -135,13 +135,7 @@ fn clause_of_bits(ports: &PortCheck, lines: &LineCheck, x: &Transaction, resp: u
 }
 
 /// K19, of an R.
-fn clause_of_upper_bits(
-    ports: &PortCheck,
-    lines: &LineCheck,
-    port: u8,
-    id: u8,
-    resp: u8,
-) -> Letter
+fn clause_of_upper_bits(ports: &PortCheck, lines: &LineCheck, port: u8, id: u8, resp: u8) -> Letter
     ensures { (r : Recording) (last : Bool) (word : ℕ) → PortsTell ports.now r
         → LinesTell lines.now r → Names r (R port id resp last word) 19 result }
 {

@@ -1,4 +1,4 @@
-use Rattle.std.proofs.Common.{not, sym, ap, ◌∙◌}
+use Rattle.std.proofs.Common.{not, ap, ◌∙◌}
 use Rattle.ace_lineck.specs.Stands.{place_on}
 use Rattle.ace_explain.proofs.RowLetters.{row-told}
 use Rattle.ace_explain.proofs.answer_clauses.is_row.Goals as goal

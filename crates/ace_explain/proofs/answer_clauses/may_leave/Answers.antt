@@ -1,4 +1,4 @@
-use Rattle.std.proofs.Common.{sym, ap, ◌∙◌}
+use Rattle.std.proofs.Common.{sym, ◌∙◌}
 use Rattle.ace_explain.proofs.RowLetters.{second-tells}
 use Rattle.ace_explain.proofs.answer_clauses.may_leave.Goals as goal
 
