@@ -1,5 +1,5 @@
 -- The clauses of K19 that are named, by the outstanding read, where K18 is kept.
-use Rattle.std.proofs.Common.{◌≡◌, ℕ, ◌<◌, Bool, true, false, not, ◌&&◌, ◌||◌, ◌==◌, if◌then◌else◌, Option, Some, None, is_some, is_none, refl, sym, ap, ◌∙◌, inl, inr, arith}
+use Rattle.std.proofs.Common.{◌≡◌, ℕ, Bool, true, false, ◌&&◌, ◌||◌, ◌==◌, Option, Some, None, refl, sym, ap, ◌∙◌, inl, inr, arith}
 use Rattle.std.proofs.lemmas.Bool.{and_parts, cases_Bool, false_from_ne_true}
 use Rattle.ace_codes.specs.Responses.{passes_dirty, is_shared}
 use Rattle.ace_codes.specs.declared.kind.ArKind.{ArKind}
@@ -12,13 +12,11 @@ use Rattle.ace_model.specs.Accepted.{IsAccepted, least_broken}
 use Rattle.ace_model.specs.Grants.{granted, has_passed_data, is_granted}
 use Rattle.ace_model.specs.Kinds.{is_line_read, may_be_shared}
 use Rattle.ace_model.specs.ReadRules.{k18, must_be_shared, same_upper_bits}
-use Rattle.ace_model.specs.Trace.{Trace, implies, is_none_or, is_some_and}
-use Rattle.ace_model.specs.Transactions.{first_resp, is_ace, is_line, outstanding, read_kind, write_kind}
+use Rattle.ace_model.specs.Trace.{implies, is_none_or, is_some_and}
+use Rattle.ace_model.specs.Transactions.{first_resp, is_ace, is_line, outstanding, read_kind}
 use Rattle.ace_model.proofs.Grants.Granted.{granted_at}
 use Rattle.ace_model.proofs.Holders.Law.{accepted_holds}
-use Rattle.ace_model.proofs.Trace.Looks.{is_on-addr}
 use Rattle.ace_portck.specs.Targets.{Recording}
-use Rattle.ace_clauses.specs.Clauses.{clause_of}
 use Rattle.ace_clauses.specs.ReadClauses.{has_not_both}
 use Rattle.ace_clauses.specs.declared.letters.Letter.TheVariants as letter
 use Rattle.ace_explain.specs.Names.{Names}

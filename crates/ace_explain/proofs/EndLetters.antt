@@ -1,9 +1,9 @@
 -- The clauses of K23 that are named, by the read that an RK acknowledges.
-use Rattle.std.proofs.Common.{◌≡◌, ℕ, Bool, true, false, not, ◌&&◌, ◌||◌, ◌==◌, if◌then◌else◌, Option, Some, None, is_some, is_none, option_map, unwrap_or, refl, sym, ap, ◌∙◌, inl, inr}
+use Rattle.std.proofs.Common.{◌≡◌, ℕ, Bool, true, false, not, ◌&&◌, ◌||◌, ◌==◌, if◌then◌else◌, Option, Some, None, option_map, unwrap_or, refl, sym, ap, ◌∙◌, inl, inr}
 use Rattle.std.proofs.lemmas.Bool.{cases_Bool}
 use Rattle.ace_codes.specs.Responses.{is_shared, passes_dirty}
 use Rattle.ace_codes.specs.declared.kind.ArKind.{ArKind}
-use Rattle.ace_codes.specs.declared.kind.ArKind.TheVariants.{MakeUnique, Barrier, DvmComplete, DvmMessage}
+use Rattle.ace_codes.specs.declared.kind.ArKind.TheVariants.{MakeUnique}
 use Rattle.ace_codes.specs.declared.state.LineState.{LineState}
 use Rattle.ace_codes.specs.declared.state.LineState.TheVariants.{I, UC, UD, SC, SD}
 use Rattle.ace_event.specs.declared.event.Channel.TheVariants.{Read}
@@ -12,14 +12,13 @@ use Rattle.ace_event.specs.declared.event.Event.TheVariants.{Rk, S}
 use Rattle.ace_tables.specs.EndStates.{ends_read}
 use Rattle.ace_tables.specs.SilentTransitions.{is_silent_move}
 use Rattle.ace_tables.specs.States.{is_invalid, is_unique}
-use Rattle.ace_model.specs.declared.transactions.Transaction.{Transaction}
 use Rattle.ace_model.specs.Accepted.{least_of}
 use Rattle.ace_model.specs.Exclusives.{has_failed}
 use Rattle.ace_model.specs.Kinds.{is_line_read, is_make_unique}
 use Rattle.ace_model.specs.Shares.{line_rules}
 use Rattle.ace_model.specs.States.{state_of, has_store}
-use Rattle.ace_model.specs.Trace.{Trace, implies, is_some_and}
-use Rattle.ace_model.specs.Transactions.{acknowledged, first_resp, is_ace, is_line, is_read, read_kind}
+use Rattle.ace_model.specs.Trace.{implies, is_some_and}
+use Rattle.ace_model.specs.Transactions.{acknowledged, first_resp, is_ace, is_read, read_kind}
 use Rattle.ace_portck.specs.Targets.{Recording, progress_of}
 use Rattle.ace_portck.specs.declared.target.Progress.{Progress}
 use Rattle.ace_lineck.proofs.BeatLaws.{progress-from, progress-is}

@@ -1,4 +1,4 @@
-//! The clauses of the rules of R, K18 to K21.
+//! The clauses of K20 and K21: the word of an R, and the low two bits of its response.
 
 ghost use Rattle.std.specs.Prelude.{◌≡◌, ℕ, Bool, Some};
 ghost use Rattle.ace_event.specs.declared.event.Channel.TheVariants.{Read};

@@ -1,8 +1,6 @@
-use Rattle.std.proofs.Common.{◌≡◌, ◌||◌, true, sym, ap, subst, ◌∙◌, Bool, Some}
+use Rattle.std.proofs.Common.{◌||◌, sym, ap, ◌∙◌}
 use Rattle.ace_codes.specs.Responses.{is_shared, passes_dirty}
 use Rattle.ace_event.specs.declared.header.Header.{Header}
-use Rattle.ace_model.specs.Accepted.{least_broken}
-use Rattle.ace_event.specs.declared.event.Event.TheVariants.{R}
 use Rattle.ace_model.specs.Trace.{implies, is_some_and}
 use Rattle.ace_model.specs.ReadRules.{must_be_shared}
 use Rattle.ace_model.specs.Transactions.{is_ace}

@@ -1,5 +1,5 @@
 use Rattle.std.proofs.Common.{sym, ◌∙◌}
-use Rattle.ace_explain.proofs.BitLetters.{granted-here, passed-with, passed-without}
+use Rattle.ace_explain.proofs.BitLetters.{passed-with, passed-without}
 use Rattle.ace_explain.proofs.bit_clauses.has_passed_data.Goals as goal
 
 pub returns-then-not-is_line : goal.returns-then-not-is_line

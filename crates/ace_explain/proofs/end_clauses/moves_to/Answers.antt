@@ -1,4 +1,4 @@
-use Rattle.std.proofs.Common.{not, false, sym, ap, ◌&&◌, ◌∙◌}
+use Rattle.std.proofs.Common.{not, sym, ap, ◌&&◌, ◌∙◌}
 use Rattle.ace_model.specs.Progress.{has_update}
 use Rattle.ace_explain.proofs.EndLetters.{moves-where-fine}
 use Rattle.ace_explain.proofs.end_clauses.moves_to.Goals as goal
