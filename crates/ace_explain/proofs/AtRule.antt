@@ -4,6 +4,10 @@ use Rattle.ace_event.specs.declared.event.Event.{Event}
 use Rattle.ace_model.specs.Accepted.{least_broken}
 use Rattle.ace_model.specs.AddressRules.{k4, k5, k6, k8}
 use Rattle.ace_model.specs.SnoopRules.{k14}
+use Rattle.ace_model.specs.ReadRules.{k22}
+use Rattle.ace_model.specs.WriteRules.{k27}
+use Rattle.ace_model.specs.CacheRules.{k30, k31}
+use Rattle.ace_model.specs.OrderRules.{k35, k38, k40}
 use Rattle.ace_portck.specs.Targets.{Recording}
 use Rattle.ace_clauses.specs.Clauses.{clause_of}
 use Rattle.ace_clauses.specs.declared.letters.Letter.{Letter}
@@ -32,3 +36,24 @@ module _ (r : Recording) (e : Event) where
 
   pub sole_14 : Names r e 14 letter.A
   sole_14 least = last_one (k14 r.header r.past e) letter.A (has_clause r.header r.past e 14 least)
+
+  pub sole_22 : Names r e 22 letter.A
+  sole_22 least = last_one (k22 r.header r.past e) letter.A (has_clause r.header r.past e 22 least)
+
+  pub sole_27 : Names r e 27 letter.A
+  sole_27 least = last_one (k27 r.header r.past e) letter.A (has_clause r.header r.past e 27 least)
+
+  pub sole_30 : Names r e 30 letter.A
+  sole_30 least = last_one (k30 r.header r.past e) letter.A (has_clause r.header r.past e 30 least)
+
+  pub sole_31 : Names r e 31 letter.A
+  sole_31 least = last_one (k31 r.header r.past e) letter.A (has_clause r.header r.past e 31 least)
+
+  pub sole_35 : Names r e 35 letter.A
+  sole_35 least = last_one (k35 r.header r.past e) letter.A (has_clause r.header r.past e 35 least)
+
+  pub sole_38 : Names r e 38 letter.A
+  sole_38 least = last_one (k38 r.header r.past e) letter.A (has_clause r.header r.past e 38 least)
+
+  pub sole_40 : Names r e 40 letter.A
+  sole_40 least = last_one (k40 r.header r.past e) letter.A (has_clause r.header r.past e 40 least)

@@ -5,5 +5,12 @@ pub mod AddressLetters
 pub mod BarrierLetters
 pub mod PartLetters
 pub mod SnoopLetters
+-- The clauses of the rules of snoop answers and their data, and of R and RK.
+pub mod Kept
+pub mod AnswerLetters
+pub mod RowLetters
+pub mod ReadLetters
+pub mod EndLetters
+pub mod BitLetters
 -- The clause of a rule by its number.
 pub mod AtRule

@@ -23,9 +23,18 @@ IsClause s e k o =
     (h : Header) (past : Trace) → SharesTell s h past → least_broken h past e ≡ Some k
     → o ≡ clause_of h past e k
 
--- the rules whose clauses are told: K1 to K10; and K11 to K14 and K17
+-- the rules whose clauses are told: K1 to K10; K11 to K14 and K17; K15 and K16, and K19 to K23; and
+-- of those behind them the rules of one clause
 abbrev pub is_snoop_rule : ℕ → Bool
 is_snoop_rule k = (k == 11) || (k == 12) || (k == 13) || (k == 14) || (k == 17)
 
+abbrev pub is_answer_rule : ℕ → Bool
+is_answer_rule k =
+    (k == 15) || (k == 16) || (k == 19) || (k == 20) || (k == 21) || (k == 22) || (k == 23)
+
+abbrev pub is_sole_rule : ℕ → Bool
+is_sole_rule k =
+    (k == 27) || (k == 30) || (k == 31) || (k == 35) || (k == 38) || (k == 40)
+
 abbrev pub is_told : ℕ → Bool
-is_told k = nat_le k 10 || is_snoop_rule k
+is_told k = nat_le k 10 || is_snoop_rule k || is_answer_rule k || is_sole_rule k

@@ -3,7 +3,11 @@
 #![tactic(auto)]
 
 mod address_clauses;
+mod answer_clauses;
+mod bit_clauses;
 mod clauses;
+mod end_clauses;
+mod read_clauses;
 mod snoop_clauses;
 
 pub use clauses::clause;
