@@ -32,10 +32,16 @@ pub(crate) fn uses_line(event: &Event) -> bool
 {
     match *event {
         Event::Ar {
-            snoop, dom, bar, ..
+            snoop,
+            dom,
+            bar,
+            ..
         } => read_ar(snoop, dom, bar).is_some_and(is_line_read),
         Event::Aw {
-            snoop, dom, bar, ..
+            snoop,
+            dom,
+            bar,
+            ..
         } => read_aw(snoop, dom, bar).is_some_and(is_line_write),
         Event::Ac { snoop, .. } => snoops_a_line(snoop),
         Event::S { .. } | Event::L { .. } | Event::D { .. } | Event::Mem { .. } => true,
