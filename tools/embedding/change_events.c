@@ -1,6 +1,6 @@
-/* change_events SEED EACH FILE..: feeds each trace EACH times with one byte or the whole of an event changed, and opens
-   handles of many headers. An event is out of range exactly where the table below says so of the fields that its kind
-   has, the first status but fine is the status for good, and no handle stays open. */
+/* change_events SEED EACH FILE..: feeds each trace EACH times with one byte, the address or the whole of an event changed, and
+   opens handles of many headers and limits of lines. An event is out of range exactly where the table below says so of the
+   fields that its kind has, the first status but fine is the status for good, and no handle stays open. */
 #include "trace_lines.h"
 
 static long wrong, changed, statuses[7];
@@ -12,18 +12,18 @@ static void want(int holds, const char *what) {
 
 static int in_range(int version, const ace_event *event) {
   int port = version != 1 || event->port < 16;
-  int id = event->id < 16, flag = event->flag < 2, state = event->state < 5;
+  int flag = event->flag < 2, state = event->state < 5, low = event->addr >> 32 == 0;
   int attributes = event->domain < 4 && event->bar < 4;
   switch (event->kind) {
-    case ACE_AR: return port && id && attributes && flag && event->snoop < 16;
-    case ACE_AW: return port && id && attributes && event->snoop < 8;
-    case ACE_R: return port && id && flag && event->resp < 16;
-    case ACE_B: return port && id && event->resp < 4;
+    case ACE_AR: return port && attributes && flag && event->snoop < 16 && (low || uses_a_line(event));
+    case ACE_AW: return port && attributes && event->snoop < 8 && (low || uses_a_line(event));
+    case ACE_R: return port && flag && event->resp < 16;
+    case ACE_B: return port && event->resp < 4;
     case ACE_RK: case ACE_WK: case ACE_S: return port && state;
     case ACE_W: case ACE_CD: case ACE_D: return port && flag;
-    case ACE_AC: return port && event->snoop < 16;
+    case ACE_AC: return port && event->snoop < 16 && (low || uses_a_line(event));
     case ACE_CR: return port && state && event->resp < 32;
-    case ACE_G: case ACE_M: return port && flag && id;
+    case ACE_G: case ACE_M: return port && flag;
     case ACE_L: return port && flag && event->index < 4;
     case ACE_OP: return port && event->index < 3;
     case ACE_MEM: return version != 1;
@@ -35,6 +35,8 @@ static void change(ace_event *event) {
   uint8_t *bytes = (uint8_t *)event;
   if (rand() % 4 == 0)
     for (size_t at = 0; at < sizeof *event; at++) bytes[at] = (uint8_t)rand();
+  else if (rand() % 4 == 0)
+    event->addr ^= (uint64_t)rand() << rand() % 44;
   else
     bytes[rand() % 10] = (uint8_t)(rand() % 3 ? rand() % 20 : rand());
 }
@@ -84,6 +86,19 @@ static long open_headers(void) {
   return count;
 }
 
+/* Reads of one line each, with addresses far apart and all identifiers: the first that is one line too many. */
+static void limit_lines(size_t lines) {
+  ace_checker checker = ACE_CLOSED;
+  want(ace_open(&checker, 2, 1, 1, lines) == ACE_FINE, "a handle is opened with any limit");
+  for (size_t at = 0; at < 256; at++) {
+    ace_event read = {.kind = ACE_AR, .id = (uint8_t)at, .addr = (uint64_t)at << 56, .snoop = 7, .domain = 1};
+    uint8_t status = ace_feed(&checker, &read);
+    want(status == (lines && at >= lines ? ACE_TOO_MANY_LINES : ACE_FINE), "a line too many is one, and only that");
+  }
+  want(ace_verdict(&checker).event == (lines && lines < 256 ? lines + 1 : 256), "the line too many ends the trace");
+  ace_close(&checker);
+}
+
 int main(int count, char **words) {
   if (count < 4) return 2;
   srand((unsigned)atoi(words[1]));
@@ -96,6 +111,7 @@ int main(int count, char **words) {
     free(trace.events);
   }
   long headers = open_headers();
+  for (size_t lines = 0; lines < 300; lines += 7) limit_lines(lines);
   printf("%ld changed traces (%ld out of range, %ld refused, %ld fine) and %ld headers: %ld wrong\n", changed,
          statuses[ACE_OUT_OF_RANGE], statuses[ACE_REFUSED], statuses[ACE_FINE], headers, wrong);
   return wrong != 0;

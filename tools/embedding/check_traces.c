@@ -1,4 +1,5 @@
-/* check_traces FILE..: the verdict on each trace, by ace_feed and again by ace_feed_many in pieces.
+/* check_traces FILE..: the verdict on each trace, by ace_feed and again by ace_feed_many in pieces; and whether it is the same
+   where each line has an address of 64 bits, and each identifier is another of 8 bits.
    check_traces --time N FILE: what an event takes, fed one by one and at once, the best of N times. */
 #include "trace_lines.h"
 #include <time.h>
@@ -36,6 +37,24 @@ static ace_answer feed_pieces(const struct trace *trace, size_t piece) {
   ace_answer answer = ace_verdict(&checker);
   ace_close(&checker);
   return answer;
+}
+
+/* The same trace with other lines, of 64-bit addresses, and other identifiers, each by a one-to-one map. */
+static struct trace widened(const struct trace *trace) {
+  struct trace wide = *trace;
+  wide.events = (ace_event *)malloc((trace->count + 1) * sizeof *wide.events);
+  if (!wide.events) abort();
+  for (size_t at = 0; at < trace->count; at++) {
+    ace_event *event = &wide.events[at];
+    *event = trace->events[at];
+    event->id = (uint8_t)(event->id * 31 + 200);
+    if (uses_a_line(event)) event->addr = ((event->addr / 64 * 0x9e3779b97f4a7c15u + 12345) << 6) | event->addr % 64;
+  }
+  return wide;
+}
+
+static int is_same(ace_answer one, ace_answer other) {
+  return one.event == other.event && one.status == other.status && one.rule == other.rule;
 }
 
 static double seconds(void) {
@@ -79,9 +98,10 @@ int main(int count, char **words) {
       continue;
     }
     ace_answer answer = feed_each(&trace), again = feed_pieces(&trace, 7), whole = feed_pieces(&trace, trace.count + 1);
-    if (answer.event != again.event || answer.status != again.status || answer.rule != again.rule ||
-        answer.event != whole.event || answer.status != whole.status || answer.rule != whole.rule)
-      printf("in pieces it is another: ");
+    if (!is_same(answer, again) || !is_same(answer, whole)) printf("in pieces it is another: ");
+    struct trace wide = widened(&trace);
+    if (!is_same(answer, feed_each(&wide))) printf("with addresses of 64 bits it is another: ");
+    free(wide.events);
     if (answer.status == ACE_OUT_OF_RANGE && answer.event == 0) printf("no header\n");
     else say_verdict(&trace, answer);
     free(trace.events);

@@ -147,6 +147,20 @@ static inline struct trace read_trace(const char *name) {
   return trace;
 }
 
+/* Whether the address of the event is that of a line: by the codes of an AR, an AW and an AC (tables C3-7, C3-9 and
+   C3-19 of the standard), and for S, L, D and MEM. */
+static inline int uses_a_line(const ace_event *event) {
+  int normal = !(event->bar & 1), shared = event->domain == 1 || event->domain == 2;
+  unsigned snoop = event->snoop;
+  switch (event->kind) {
+    case ACE_AR: return normal && snoop < 16 && (snoop == 0 || (shared && (0x3b8e >> snoop & 1)));
+    case ACE_AW: return normal && (snoop == 0 || (shared && snoop < 6));
+    case ACE_AC: return snoop < 16 && (0x238f >> snoop & 1);
+    case ACE_S: case ACE_L: case ACE_D: case ACE_MEM: return 1;
+    default: return 0;
+  }
+}
+
 /* What `ace check` says of such a trace, but for the reason why a line is malformed. */
 static inline void say_verdict(const struct trace *trace, ace_answer answer) {
   unsigned long long event = answer.event;

@@ -17,7 +17,7 @@ use Rattle.ace_c.specs.Names.{lines_used, named, named_next}
 use Rattle.ace_c.specs.Naming.{NamesStand}
 use Rattle.ace_c.specs.Range.{InRange}
 use Rattle.ace_c.specs.Sessions.{Hears, EndsAt, ending_as}
-use Rattle.ace_c.proofs.Naming.{named-grows}
+use Rattle.ace_c.proofs.Naming.{named_grows}
 
 -- where the answer ends nothing, the session has heard the event
 pub fed_fine : (most : ℕ) (h : Header) (past : Trace) (e x : Event) (old : Session) (new : Checker) (names : Names) (answer : Result Step CheckErr)
@@ -28,7 +28,7 @@ pub fed_fine : (most : ℕ) (h : Header) (past : Trace) (e x : Event) (old : Ses
 fed_fine most h past e x old new names (Ok Fine) same hears range names_stand stands = (
   subst (λ (v : ℕ). InRange v e) hears.version range,
   record {
-    stands = subst (λ (t : Trace). StandsWithin most new h t None) (ap (λ (y : Event). y ∷ named past) same ∙ sym (named-grows e past)) stands;
+    stands = subst (λ (t : Trace). StandsWithin most new h t None) (ap (λ (y : Event). y ∷ named past) same ∙ sym (named_grows past e)) stands;
     names = names_stand;
     version = hears.version;
     on = hears.on;

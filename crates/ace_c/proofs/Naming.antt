@@ -1,10 +1,12 @@
 -- The names of lines stay, and each is of one line.
-use Rattle.std.proofs.Common.{◌≡◌, ◌<◌, ◌/◌, ◌==◌, ◌∷◌, ℕ, true, false, List, [], length, map, Option, Some, None, is_some, refl, sym, ap, subst, ◌∙◌, inl, inr, arith}
+use Rattle.std.proofs.Common.{◌≡◌, ◌<◌, ◌/◌, ◌==◌, ◌∷◌, ℕ, true, false, List, [], length, map, Option, Some, None, is_some, refl, sym, ap, subst, ◌∙◌, inl, inr, arith, ◌-◌, ◌^◌}
 use Rattle.std.proofs.lemmas.Bool.{cases_Bool, eqb-true}
 use Rattle.std.proofs.lemmas.List.{length-map}
 use Rattle.ace_event.specs.declared.event.Event.{Event}
 use Rattle.ace_model.specs.AddressRules.{line_address}
 use Rattle.ace_model.specs.Trace.{Trace}
+use Rattle.ace_check.specs.Run.{goes_over_within}
+use Rattle.ace_check.proofs.WhatComes.{never-over}
 use Rattle.ace_c.specs.Names.{line_used, lines_used, name_in, named, named_event, named_next, with_line}
 
 -- a line has the name that is looked for, or none, also where its newest is another
@@ -39,9 +41,9 @@ name-below l (m ∷ lines) k named =
     ]
 
 -- two lines with one name are one
-pub one-to-one : (lines : List ℕ) (a b k : ℕ) → name_in lines a ≡ Some k → name_in lines b ≡ Some k → a ≡ b
-one-to-one [] a b k left right = let bad : None ≡ Some k = left in cc
-one-to-one (m ∷ lines) a b k left right =
+pub one_to_one : (lines : List ℕ) (a b k : ℕ) → name_in lines a ≡ Some k → name_in lines b ≡ Some k → a ≡ b
+one_to_one [] a b k left right = let bad : None ≡ Some k = left in cc
+one_to_one (m ∷ lines) a b k left right =
     elim (cases_Bool (m == a)) [
       | inl t ↦ elim (cases_Bool (m == b)) [
         | inl u ↦ sym (eqb-true m a t) ∙ eqb-true m b u
@@ -57,7 +59,7 @@ one-to-one (m ∷ lines) a b k left right =
             let is : length lines ≡ k = cc in
             let below = name-below a lines k (rw f at left) in
             absurd (omega (arith, is, below))
-        | inr g ↦ one-to-one lines a b k (rw f at left) (rw g at right)
+        | inr g ↦ one_to_one lines a b k (rw f at left) (rw g at right)
       ]
     ]
 
@@ -93,10 +95,16 @@ same-names (e ∷ past) a b same =
         rw (is, both) refl
 
 -- a trace grows by the event with the name of its line
-pub named-grows : (e : Event) (past : Trace) → named (e ∷ past) ≡ named_next past e ∷ named past
-named-grows e past =
+pub named_grows : (past : Trace) (e : Event) → named (e ∷ past) ≡ named_next past e ∷ named past
+named_grows past e =
     ap (λ (t : Trace). named_next past e ∷ t)
     (same-names past (lines_used (e ∷ past)) (lines_used past) (λ l k is. name-stays (line_used e) l (lines_used past) k is ∙ sym is))
 
 pub named-long : (past : Trace) → length (named past) ≡ length past
 named-long past = length-map past (named_event (lines_used past))
+
+pub names_stay : (past : Trace) (e : Event) (l k : ℕ) → name_in (lines_used past) l ≡ Some k → name_in (lines_used (e ∷ past)) l ≡ Some k
+names_stay past e l k named = name-stays (line_used e) l (lines_used past) k named
+
+pub no_limit : (past : Trace) (e : Event) → length past < 2 ^ 64 - 1 → goes_over_within (2 ^ 64 - 1) past e ≡ true → ⊥
+no_limit past e few over = never-over past e few over

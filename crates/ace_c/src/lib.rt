@@ -4,6 +4,7 @@
 mod answer;
 mod handle;
 mod header;
+mod laws;
 mod names;
 mod owned;
 mod parts;
