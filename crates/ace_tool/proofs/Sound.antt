@@ -92,5 +92,3 @@ all_sound promise holds input left (c ∷ past) (between, right, next) a = (
 pub sound_where_accepted : Promise → (holds : List ℕ → Option (List ℕ)) (input left : Option (List ℕ)) (checked : List Checked)
     → AreRight holds input checked left → status_of_all (statuses_of checked) ≡ 0 → AreSound holds input checked
 sound_where_accepted promise holds input left checked right e = all_sound promise holds input left checked right (all_accepted _ e)
-
-pub ruleset sound = (sound_where_accepted)

@@ -6,7 +6,6 @@ ghost use Rattle.ace_tool.specs.Reports.{status_of_all};
 
 use ace_verdict::laws::one_verdict_is_due;
 
-#[tactic(auto, using(crate::proofs::Sound::sound))]
 /// Where the status of many traces is 0, each has all that acceptance promises.
 pub fn accepted_traces_are_sound()
     ensures { (holds : List ℕ
