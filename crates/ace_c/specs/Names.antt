@@ -1,5 +1,6 @@
--- The lines that the events of a trace use, and the trace in which each line has a name: the first line that is used is that
--- of address 0, the next that of 64, and so on. The bytes within a line stay.
+-- The lines that the events of a trace use, and the trace in which each line has a name: the first
+-- line that is used is that of address 0, the next that of 64, and so on. The bytes within a line
+-- stay.
 use Rattle.std.specs.Prelude.{ℕ, ◌+◌, ◌*◌, ◌/◌, ◌%◌, ◌==◌, ◌&&◌, nat_le, Bool, if◌then◌else◌, List, [], ◌∷◌, length, map, Option, Some, None, is_some, is_none, option_map, unwrap_or}
 use Rattle.ace_event.specs.declared.event.Event.{Event}
 use Rattle.ace_event.specs.declared.event.Event.TheVariants.{Ar, Aw, Ac, S, L, D, Mem}

@@ -10,7 +10,8 @@ use Rattle.ace_c.specs.declared.names.Recent.{Recent}
 abbrev pub IsRecent : List ℕ → Recent → Type 0
 IsRecent lines r = r.name < most_names → name_in lines r.line ≡ Some r.name
 
--- The table has the names of these lines, the newest of which stands first, and remembers some of them.
+-- The table has the names of these lines, the newest of which stands first, and remembers some of
+-- them.
 pub record NamesStand (s : Names) (lines : List ℕ) : Type 0 where
   pub recent : All (IsRecent lines) s.recent
   pub places : (l : ℕ) → get nat_cmp s.places l ≡ name_in lines l

@@ -1,5 +1,5 @@
--- Which numbers the fields of an event may have that a program gives: those of a trace, but for identifiers, which may have
--- any byte, and addresses of lines, which may have eight.
+-- Which numbers the fields of an event may have that a program gives: those of a trace, but for
+-- identifiers, which may be any byte, and addresses of lines, which have eight bytes.
 use Rattle.std.specs.Prelude.{◌≢◌, ℕ, Bool, true, false, ◌<◌, ◌≤◌, ◌^◌}
 use Rattle.ace_codes.specs.Reads.{ar_kind_of}
 use Rattle.ace_codes.specs.Writes.{aw_kind_of}

@@ -70,15 +70,15 @@ pub extern "C" fn ace_open(
 }
 
 /// Looks at the next event of the trace. The status is 0 where it breaks no rule, and neither did
-/// one before: then the trace so far, under the names of its lines, is sound. The first that isn't 0 is the status for good. It is
-/// 6 where the handle is closed.
+/// one before: then the trace so far, under the names of its lines, is sound. The first that isn't
+/// 0 is the status for good. It is 6 where the handle is closed.
 #[unsafe(no_mangle)]
 pub extern "C" fn ace_feed(alloc: Global, checker: &mut AceChecker, event: &AceEvent) -> u8
-    ensures fine { (most : ℕ) (h : Header) (past : Trace) → Hears checker.old most h past → result ≡ 0
-        → IsEventThat h (event_of event.now)
+    ensures fine { (most : ℕ) (h : Header) (past : Trace) → Hears checker.old most h past
+        → result ≡ 0 → IsEventThat h (event_of event.now)
         (λ e. Hears checker.new most h (e ∷ past) × IsSound h (named (e ∷ past))) }
-    ensures ends { (most : ℕ) (h : Header) (past : Trace) → Hears checker.old most h past → result ≢ 0
-        → (ending : Ending) × HasEnded checker.new most h past ending
+    ensures ends { (most : ℕ) (h : Header) (past : Trace) → Hears checker.old most h past
+        → result ≢ 0 → (ending : Ending) × HasEnded checker.new most h past ending
         × IsEnding most h past (event_of event.now) ending × (result ≡ status_of ending) }
     ensures ended { (most : ℕ) (h : Header) (past : Trace) (ending : Ending)
         → HasEnded checker.old most h past ending

@@ -91,7 +91,7 @@ pub struct Recent {
 fn place_of(line: u64) -> usize
     ensures { result < 1024 }
 {
-    (line % 1024) as usize
+    (line as usize) % RECENT
 }
 
 /// Nothing is remembered.

@@ -66,11 +66,11 @@ impl Session {
     /// Looks at the next event, and tells the status.
     #[inline(always)]
     pub(crate) fn feed(&mut self, given: &AceEvent) -> u8
-        ensures fine { (most : ℕ) (h : Header) (past : Trace) → Hears self.old most h past → result ≡ 0
-            → IsEventThat h (event_of given.now)
+        ensures fine { (most : ℕ) (h : Header) (past : Trace) → Hears self.old most h past
+            → result ≡ 0 → IsEventThat h (event_of given.now)
             (λ e. Hears self.new most h (e ∷ past) × IsSound h (named (e ∷ past))) }
-        ensures ends { (most : ℕ) (h : Header) (past : Trace) → Hears self.old most h past → result ≢ 0
-            → (ending : Ending) × HasEnded self.new most h past ending
+        ensures ends { (most : ℕ) (h : Header) (past : Trace) → Hears self.old most h past
+            → result ≢ 0 → (ending : Ending) × HasEnded self.new most h past ending
             × IsEnding most h past (event_of given.now) ending × (result ≡ status_of ending) }
         ensures ended { (most : ℕ) (h : Header) (past : Trace) (ending : Ending)
             → HasEnded self.old most h past ending
