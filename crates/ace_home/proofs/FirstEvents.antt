@@ -232,15 +232,19 @@ module _ (h : Header) (past : Trace) (a : IsAccepted h past) (p : ℕ) (x : Tran
       let reads : is_read x.chan ≡ true = rw chan refl in
       is-first h past may-answer transfer [] (and_from _ _ (and_from _ _ reads (takes-line x g.kind)) fits)
 
-  pub transfer-held : x.chan ≡ Read → has_grant past x.port x.chan x.id ≡ true → (n : ℕ) → n ≡ transfers past x.port x.id
-      → ((n == 0) && not x.lock && is_answering h past x.addr) ≡ true → first_kept h past (transfer_burst h past x) ≡ None
-  transfer-held chan had n count held =
+  -- a granted read that hasn't begun waits for answers, unless it is an exclusive store that failed
+  pub transfer-waits : x.chan ≡ Read → has_grant past x.port x.chan x.id ≡ true → transfers past x.port x.id ≡ 0 → has_failed past x ≡ false → is_answering h past x.addr ≡ true
+      → first_kept h past (transfer_burst h past x) ≡ None
+  transfer-waits chan had first unfailed answering =
       let g = granted-line h past a p x o had in
-      let parts = held-parts n held in
       let out : outstanding h past x.port Read x.id ≡ Some x = subst (λ c. outstanding h past x.port c x.id ≡ Some x) chan (out-own h past a p x o) in
       either-none h past may-answer transfer [] (λ _. false_from_ne_true (is_kept h past transfer) (λ kept.
-      answering-transfer h past a x.port x.id (response_bits h past x) (is_last_beat past x) (next_word past x) x out (takes-line x (granted_given h past a x.addr x g).kind) g parts.1
-      (sym count ∙ parts.0) parts.2 (kept-breaks-none h past transfer kept)))
+      answering-transfer h past a x.port x.id (response_bits h past x) (is_last_beat past x) (next_word past x) x out (takes-line x (granted_given h past a x.addr x g).kind) g unfailed
+      first answering (kept-breaks-none h past transfer kept)))
+
+  pub transfer-held : x.chan ≡ Read → has_grant past x.port x.chan x.id ≡ true → (n : ℕ) → n ≡ transfers past x.port x.id
+      → ((n == 0) && not x.lock && is_answering h past x.addr) ≡ true → first_kept h past (transfer_burst h past x) ≡ None
+  transfer-held chan had n count held = let parts = held-parts n held in transfer-waits chan had (sym count ∙ parts.0) parts.1 parts.2
 
   -- ---- writes ----
 
@@ -285,18 +289,20 @@ module _ (h : Header) (past : Trace) (a : IsAccepted h past) (p : ℕ) (x : Tran
         | inr update ↦ updates_ungranted x takes writes (and_parts _ _ update).0
       ])
 
-  pub write-held : x.chan ≡ Write → has_grant past x.port x.chan x.id ≡ true → (n : ℕ) → ((n == 0) && not x.lock && is_answering h past x.addr) ≡ true
-      → first_kept h past (write_burst h past x) ≡ None
-  write-held chan had n held =
+  pub write-waits : x.chan ≡ Write → has_grant past x.port x.chan x.id ≡ true → has_failed past x ≡ false → is_answering h past x.addr ≡ true → first_kept h past (write_burst h past x) ≡ None
+  write-waits chan had unfailed answering =
       let writes : is_read x.chan ≡ false = rw chan refl in
-      let parts = held-parts n held in
-      let undone = answering-undone h past a x (granted-line h past a p x o had) parts.1 parts.2 in
+      let undone = answering-undone h past a x (granted-line h past a p x o had) unfailed answering in
       none-written chan (λ may takes.
       let how = (data_may h past x (ap (λ b. if b then may_write_passed h past x else may_write_data h past x) writes ∙ may) writes).how in
       elim how [
         | inl due ↦ let done = (and_parts (is_granted h past x) (are_snoops_done h past x) due).1 in let bad : false ≡ true = sym undone ∙ done in cc
         | inr update ↦ updates_ungranted x takes writes (and_parts _ _ update).0
       ])
+
+  pub write-held : x.chan ≡ Write → has_grant past x.port x.chan x.id ≡ true → (n : ℕ) → ((n == 0) && not x.lock && is_answering h past x.addr) ≡ true
+      → first_kept h past (write_burst h past x) ≡ None
+  write-held chan had n held = let parts = held-parts n held in write-waits chan had parts.1 parts.2
 
   pub write-unsent : x.chan ≡ Write → data_sent past x ≡ None → first_kept h past (write_burst h past x) ≡ None
   write-unsent chan none =

@@ -14,6 +14,7 @@ use Rattle.ace_codes.specs.declared.state.LineState.{LineState}
 use Rattle.ace_event.specs.declared.header.Header.{Header}
 use Rattle.ace_model.specs.declared.transactions.Transaction.{Transaction}
 use Rattle.ace_model.specs.Accepted.{IsAccepted}
+use Rattle.ace_model.specs.Exclusives.{has_failed}
 use Rattle.ace_model.specs.Grants.{granted, has_grant, ports_below}
 use Rattle.ace_model.specs.Trace.{Trace}
 use Rattle.ace_model.specs.Snoops.{snoops_a_line}
@@ -38,7 +39,7 @@ use Rattle.ace_home.specs.Marks.{IsAsMarked, IsHeldUp, IsStill, mark_of, slot_of
 use Rattle.ace_home.specs.Home.{IsOf, grant_of}
 use Rattle.ace_home.specs.Services.{TakesNoneBelow, all_steps}
 use Rattle.ace_home.proofs.Among.{fewer-snoops}
-use Rattle.ace_home.proofs.FirstEvents.{grant-had, grant-not-kept, passed-is, read-no-write, snoop-over, transfer-held, without-passed, write-held, write-no-passed, write-no-transfer}
+use Rattle.ace_home.proofs.FirstEvents.{grant-had, grant-not-kept, passed-is, read-no-write, snoop-over, transfer-held, transfer-waits, without-passed, write-held, write-no-passed, write-no-transfer, write-waits}
 use Rattle.ace_home.proofs.Firsts.{takes-none, ungranted-takes-none}
 use Rattle.ace_home.proofs.Waiting.{kept-free}
 
@@ -173,3 +174,16 @@ module _ (among : PortSets) (h : Header) (past : Trace) (a : IsAccepted h past) 
       by Write chan had =
           takes-none among h past x (grant-had h past a p x o had) (fewer-snoops among h past x (snoop-over h past a p x o held.snooped))
           (write-no-passed h past a p x o chan) (write-no-transfer h past a p x o chan) (write-held h past a p x o chan had n waits)
+
+  -- nor for one that was granted it and hasn't begun
+  pub held-unbegun : has_grant past x.port x.chan x.id ≡ true → (x.chan ≡ Read → transfers past x.port x.id ≡ 0) → has_failed past x ≡ false → TakesNoneBelow among all_steps h past x
+  held-unbegun had first unfailed = by x.chan refl
+    where
+      by : (c : Channel) → x.chan ≡ c → TakesNoneBelow among all_steps h past x
+      by Read chan =
+          takes-none among h past x (grant-had h past a p x o had) (fewer-snoops among h past x (snoop-over h past a p x o held.snooped))
+          (without-passed h past a p x o (sym (passed-is h past a p x o had) ∙ held.clean)) (transfer-waits h past a p x o chan had (first chan) unfailed held.answering)
+          (read-no-write h past a p x o chan)
+      by Write chan =
+          takes-none among h past x (grant-had h past a p x o had) (fewer-snoops among h past x (snoop-over h past a p x o held.snooped))
+          (write-no-passed h past a p x o chan) (write-no-transfer h past a p x o chan) (write-waits h past a p x o chan had unfailed held.answering)

@@ -24,3 +24,9 @@ pub mod Kept
 pub mod Transfers
 -- Lines whose granted transactions are held up.
 pub mod HeldUp
+-- Sets of ports.
+pub mod PortBits
+-- What an event leaves as it is.
+pub mod Untouched
+-- Ports at rest.
+pub mod AtRest

@@ -19,4 +19,5 @@ grows s plan past o stands right other = record {
   shares = stands.shares;
   header = stands.header;
   marks = stands.marks;
+  resting = stands.resting;
 }

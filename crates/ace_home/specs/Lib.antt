@@ -3,5 +3,6 @@ pub mod Among
 pub mod EngineLaws
 pub mod Marks
 pub mod Home
+pub mod Resting
 pub mod Services
 pub mod Turns

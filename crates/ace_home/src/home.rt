@@ -19,6 +19,8 @@ use crate::least::goes_behind;
 use crate::line_engine::LineEngine;
 use crate::marking::moved_line;
 use crate::marks::MarkedLines;
+use crate::rest::rouse;
+use crate::resting::RestingPorts;
 use crate::service::Service;
 use ace_check::Shares;
 use ace_engine::{Burst, Engine};
@@ -36,6 +38,7 @@ pub struct Home {
     pub(crate) shares: Shares,
     pub(crate) header: Header,
     pub(crate) marks: MarkedLines,
+    pub(crate) resting: RestingPorts,
 }
 
 impl Home {
@@ -44,6 +47,7 @@ impl Home {
     /// # Errors
     ///
     /// `NoMemory` where there is none.
+    #[tactic(auto, using(crate::proofs::AtRest::none_at_rest))]
     pub fn new(alloc: Global, plan: &PlanView) -> Result<Home, NoMemory>
         requires { IsRight plan.now.plan }
         ensures { IfOk result (λ s. HomeStands s plan.now.plan []) }
@@ -56,6 +60,7 @@ impl Home {
             shares,
             header,
             marks: MarkedLines::none(),
+            resting: RestingPorts::all(),
         })
     }
 
@@ -154,8 +159,12 @@ impl Home {
             → HomeStands self.new plan (event.now ∷ past) }
     {
         let line = moved_line(event, self.shares.ports());
+        let rested = self.begins_at_rest(event);
+        rouse(&mut self.resting, &self.header, event, line);
         self.shares.hear(event);
-        self.renew(event, line);
+        let held = self.renew(event, line);
+        self.rouse_holder(held);
+        self.look_after(event, line, rested);
     }
 
     /// Hears the event, and puts it in the burst, if that isn't full.
@@ -236,6 +245,9 @@ impl LineEngine for Home {
         ensures least { IsTrue result → (plan : Plan) (past : Trace) → HomeStands self.old plan past
             → IsLeastStepAmong (F.has among.now) plan past port out.new }
     {
+        if self.resting.has(port) {
+            return false;
+        }
         let Some(due) = self.next(port, among) else {
             return false;
         };

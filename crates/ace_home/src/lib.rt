@@ -10,7 +10,10 @@ mod least;
 mod line_engine;
 mod marking;
 mod marks;
+mod port_set;
 mod queues;
+mod rest;
+mod resting;
 mod service;
 
 pub use home::Home;

@@ -1,6 +1,6 @@
 //! The marks of lines, as events come.
 
-ghost use Rattle.std.specs.Prelude.{◌≡◌, ◌∷◌, ℕ, true, false, Some, option_map};
+ghost use Rattle.std.specs.Prelude.{◌≡◌, ◌⊎◌, ◌∷◌, ℕ, true, false, Some, option_map};
 ghost use Rattle.std.specs.Option.{option_copied};
 ghost use Rattle.ace_event.specs.declared.header.Header.{Header as Headers};
 ghost use Rattle.ace_model.specs.Accepted.{IsAccepted};
@@ -10,6 +10,7 @@ ghost use Rattle.ace_check.specs.Shares.{SharesStand};
 ghost use Rattle.ace_lineck.specs.Waiting.{has_unsnooped};
 ghost use Rattle.ace_home.specs.Marks.{IsAsMarked, IsStill, mark_of};
 ghost use Rattle.ace_home.specs.declared.marks.Mark.{Mark as Marks};
+ghost use Rattle.ace_home.specs.declared.marks.Mark.TheVariants.{HeldUp};
 
 use crate::home::Home;
 use crate::marks::Mark;
@@ -116,9 +117,10 @@ impl Home {
         }
     }
 
-    /// The line, if there is one, has the mark that it has after the event.
+    /// The line, if there is one, has the mark that it has after the event. It gives the line that may
+    /// be marked as held up no more, if there is one.
     #[inline(always)]
-    pub(crate) fn renew(&mut self, event: &Event, line: Option<u32>)
+    pub(crate) fn renew(&mut self, event: &Event, line: Option<u32>) -> Option<u32>
         ensures others { (l : ℕ) (m : Marks) → (line ≡ Some l → ⊥)
             → mark_of self.new.marks l ≡ Some m → mark_of self.old.marks l ≡ Some m }
         ensures line { (h : Headers) (past : Trace) (l : ℕ) (m : Marks)
@@ -126,11 +128,16 @@ impl Home {
             → ((k : Marks) → mark_of self.old.marks l ≡ Some k → IsAsMarked h past l k)
             → line ≡ Some l → mark_of self.new.marks l ≡ Some m
             → IsAsMarked h (event.now ∷ past) l m }
+        ensures held { (l : ℕ) → mark_of self.old.marks l ≡ Some HeldUp
+            → (mark_of self.new.marks l ≡ Some HeldUp) ⊎ (result ≡ Some l) }
         ensures rest { self.new ≡ record self.old { marks = self.new.marks } }
     {
-        if let Some(line) = line {
-            let mark = self.mark_after(event, line);
-            self.marks.put(line, mark);
-        }
+        let Some(line) = line else {
+            return None;
+        };
+        let mark = self.mark_after(event, line);
+        let held = self.marks.held_up_beside(line);
+        self.marks.put(line, mark);
+        held
     }
 }

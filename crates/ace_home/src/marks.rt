@@ -3,6 +3,7 @@
 ghost use Rattle.std.specs.Prelude.{◌≡◌, ◌⊎◌, ℕ, Some, None};
 ghost use Rattle.ace_home.specs.Marks.{mark_of, slot_of};
 ghost use Rattle.ace_home.specs.declared.marks.Mark.{Mark as Marks};
+ghost use Rattle.ace_home.specs.declared.marks.Mark.TheVariants.{HeldUp};
 
 /// How many lines are remembered at most.
 const SLOTS: usize = 1024;
@@ -64,12 +65,29 @@ impl MarkedLines {
         }
     }
 
-    /// The line has this mark from now on, or none. The others have none that they hadn't.
+    /// The line that is marked as held up where this one is remembered, if there is one.
+    #[inline(always)]
+    pub fn held_up_beside(&self, line: u32) -> Option<u32>
+        ensures { (l : ℕ) → slot_of l ≡ slot_of line → mark_of self.now l ≡ Some HeldUp → result ≡ Some l }
+    {
+        let kept = self.lines[slot_of(line)];
+        match kept {
+            None => None,
+            Some(kept) => match kept.mark {
+                Mark::HeldUp => Some(kept.line),
+                Mark::Snooped => None,
+            },
+        }
+    }
+
+    /// The line has this mark from now on, or none. The others have none that they hadn't, and those
+    /// that are remembered elsewhere have what they had.
     #[inline(always)]
     pub fn put(&mut self, line: u32, mark: Option<Mark>)
-        ensures { (l : ℕ) (m : Marks) → mark_of self.new l ≡ Some m
+        ensures own { (l : ℕ) (m : Marks) → mark_of self.new l ≡ Some m
             → ((line ≡ l) × (mark ≡ Some m))
             ⊎ ((line ≡ l → ⊥) × (mark_of self.old l ≡ Some m)) }
+        ensures others { (l : ℕ) → (slot_of l ≡ slot_of line → ⊥) → mark_of self.new l ≡ mark_of self.old l }
     {
         match mark {
             Some(mark) => self.lines[slot_of(line)] = Some(Marked { line, mark }),
@@ -80,8 +98,9 @@ impl MarkedLines {
     /// The line has no mark from now on.
     #[inline(always)]
     fn remove(&mut self, line: u32)
-        ensures { (l : ℕ) (m : Marks) → mark_of self.new l ≡ Some m
+        ensures own { (l : ℕ) (m : Marks) → mark_of self.new l ≡ Some m
             → (line ≡ l → ⊥) × (mark_of self.old l ≡ Some m) }
+        ensures others { (l : ℕ) → (slot_of l ≡ slot_of line → ⊥) → mark_of self.new l ≡ mark_of self.old l }
     {
         if self.of(line).is_some() {
             self.lines[slot_of(line)] = None;

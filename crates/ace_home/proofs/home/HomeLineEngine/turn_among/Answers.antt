@@ -1,6 +1,7 @@
-use Rattle.std.proofs.Common.{subst}
+use Rattle.std.proofs.Common.{sym, subst, ◌∙◌}
 use Rattle.ace_home.specs.Home.{IsOf}
 use Rattle.ace_home.specs.Turns.{IsFirst, IsFirstOf}
+use Rattle.ace_home.proofs.AtRest.{waiting-takes-none}
 use Rattle.ace_home.proofs.Serving.{least-step, none-enabled, of-home}
 use Rattle.ace_home.proofs.home.HomeLineEngine.turn_among.Goals as goal
 
@@ -29,3 +30,10 @@ pub returns-in_default-clause-none : goal.returns-in_default-clause-none
 returns-in_default-clause-none g c = λ _ plan past s.
     let among = g.F.Among.has c.args.among.now in
     none-enabled among plan past c.args.port (subst (IsFirstOf among plan.header past c.args.port (IsOf plan.header past c.args.port)) c.in_default.is (c.next.ensures plan past s))
+
+pub returns-then-has-clause-none : goal.returns-then-has-clause-none
+returns-then-has-clause-none g c = λ _ plan past s.
+    let p = c.args.port in
+    let among = g.F.Among.has c.args.among.now in
+    none-enabled among plan past p (λ y o.
+    waiting-takes-none among plan.header past s.legal.accepted p y o c.args.self.now.marks s.marks (s.resting p (sym c.has.ensures ∙ c.if-has.true) y o).waits)
