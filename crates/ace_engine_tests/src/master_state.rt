@@ -2,7 +2,7 @@
 
 use ace_codes::LineState::{self, I, SC, UC, UD};
 use ace_event::{Channel, Event, Header, Line, Outcome};
-use ace_master_state::{Cached, Closing, Completions, Kept, Monitor, Segment, Syncs};
+use ace_master_state::{Cached, Closing, Completions, Identifiers, Kept, Monitor, Segment, Syncs};
 use ace_model::Op;
 use ace_portck::OnePort;
 use std::alloc::Global;
@@ -18,6 +18,7 @@ const HEADER: Header = Header {
 fn start(alloc: Global) -> Result<Kept, Fail> {
     Ok(Kept {
         port: OnePort::new(alloc, HEADER, 0, 8)?,
+        identifiers: Identifiers::none(),
         lines: Cached::new(alloc, 2)?,
         monitor: Monitor::new(0),
         segment: Segment::new(alloc, 0)?,
@@ -348,5 +349,87 @@ fn ends_a_sync(rt: HostRuntime) -> Result<(), Fail> {
     let holds = ends_once_answered(&mut kept);
     drop(kept);
     assert!(rt; holds);
+    Ok(())
+}
+
+fn aw(id: u8) -> Event {
+    Event::Aw {
+        port: 0,
+        id,
+        addr: 64,
+        snoop: 1,
+        dom: 1,
+        bar: 0,
+    }
+}
+
+fn b(id: u8) -> Event {
+    Event::B {
+        port: 0,
+        id,
+        resp: 0,
+    }
+}
+
+/// The least identifiers that are free for a read, for a write and for both are these.
+fn are_free(of: &Identifiers, read: u8, write: u8, both: u8) -> bool {
+    of.free_on(Channel::Read) == Some(read)
+        && of.free_on(Channel::Write) == Some(write)
+        && of.free_on_both() == Some(both)
+}
+
+/// At an ACE port an identifier is free again from the RK or WK on.
+fn frees_what_is_acknowledged(kept: &mut Kept) -> bool {
+    hear(kept, &[ar(0, 64, 1, false), ar(1, 128, 0, false), aw(0)]);
+    let taken = are_free(&kept.identifiers, 2, 1, 2);
+    hear(kept, &[r(0, 0, false, 1), r(0, 0, true, 2), b(0)]);
+    let complete = are_free(&kept.identifiers, 2, 1, 2);
+    hear(kept, &[rk(UC)]);
+    let read = are_free(&kept.identifiers, 0, 1, 2);
+    hear(kept, &[Event::Wk { port: 0, st: I }]);
+    let beside = kept.identifiers.free_on_beside(Channel::Read, 0);
+    taken && complete && read && beside == Some(2) && are_free(&kept.identifiers, 0, 0, 0)
+}
+
+#[test]
+fn frees_identifiers(rt: HostRuntime) -> Result<(), Fail> {
+    let mut kept = start(rt.alloc())?;
+    let holds = frees_what_is_acknowledged(&mut kept);
+    drop(kept);
+    assert!(rt; holds);
+    Ok(())
+}
+
+/// At an ACE-Lite port it is free from the last R or the B on.
+fn frees_what_is_complete() -> bool {
+    let mut of = Identifiers::none();
+    for event in &[ar(0, 64, 0, false), aw(0), r(0, 0, false, 1)] {
+        of.hear_lite(event);
+    }
+    let taken = are_free(&of, 1, 1, 1);
+    of.hear_lite(&r(0, 0, true, 2));
+    let read = are_free(&of, 0, 1, 1);
+    of.hear_lite(&b(0));
+    taken && read && are_free(&of, 0, 0, 0)
+}
+
+/// None is left after sixteen writes.
+fn uses_up_all() -> bool {
+    let mut of = Identifiers::none();
+    for id in 0..16 {
+        if of.is_used_up() || of.free_on(Channel::Write) != Some(id) {
+            return false;
+        }
+        of.hear_lite(&aw(id));
+    }
+    let none = of.free_on(Channel::Write) == None && of.free_on_both() == None;
+    let used = of.is_used_up() && of.free_on(Channel::Read) == Some(0);
+    of.hear_lite(&b(5));
+    none && used && !of.is_used_up() && of.free_on(Channel::Write) == Some(5)
+}
+
+#[test]
+fn uses_identifiers_at_lite_ports(rt: HostRuntime) -> Result<(), Fail> {
+    assert!(rt; frees_what_is_complete() && uses_up_all());
     Ok(())
 }

@@ -20,3 +20,5 @@ pub mod Turned
 pub mod Acknowledges
 -- The master of an ACE port that has one more operation.
 pub mod Pushed
+-- An operation that can't ask for an identifier.
+pub mod Unasked

@@ -10,3 +10,5 @@ pub mod GoodBursts
 pub mod AskingSteps
 -- The events by which a port asks.
 pub mod AskedEvents
+-- Both parts of a DVM message.
+pub mod MessageParts

@@ -1,7 +1,3 @@
--- The least number that passes a test.
-pub mod LeastNumbers
--- The identifiers that are taken, as bits.
-pub mod TakenNumbers
 -- What is kept of a port has room for each event.
 pub mod KeptPorts
 -- The strobes of the beats of a burst.

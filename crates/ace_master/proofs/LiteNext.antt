@@ -7,6 +7,7 @@ use Rattle.ace_model.specs.declared.plans.Op.{Op}
 use Rattle.ace_model.specs.declared.transactions.Transaction.{Transaction}
 use Rattle.ace_model.specs.Plans.{Plan}
 use Rattle.ace_model.specs.Trace.{Trace, is_some_and}
+use Rattle.ace_model.specs.Transactions.{is_ace}
 use Rattle.ace_model.specs.Writes.{beats, data_writes, next_write}
 use Rattle.ace_runs.specs.Acts.{acts_of}
 use Rattle.ace_runs.specs.Bursts.{onto}
@@ -16,6 +17,7 @@ use Rattle.ace_runs.specs.Retiring.{is_met, may_retire}
 use Rattle.ace_runs.specs.Steps.{is_enabled_by, is_step_by}
 use Rattle.ace_engine.specs.Engines.{IsLegal}
 use Rattle.ace_portck.specs.declared.target.WriteData.{WriteData}
+use Rattle.ace_master_state.specs.Identifiers.{IdentifiersStand}
 use Rattle.ace_master.specs.declared.lite.LiteMaster.{LiteMaster}
 use Rattle.ace_master.specs.KeptPort.{KeepsPort}
 use Rattle.ace_master.specs.Lite.{IsAsking, IsTurn, LiteStands, LiteTells, own_steps, port_of}
@@ -42,14 +44,20 @@ asking-tells s plan past op a =
 -- A master that has put the burst, and keeps this of the trace with it, has taken a turn.
 pub put-turn : (s t : LiteMaster) (plan : Plan) (past : Trace) (events burst out : List Event) → LiteStands s plan past → events ≡ burst → out ≡ events → port_of t ≡ port_of s
     → (KeepsPort s.port plan past → IsLegal plan (onto events past) → KeepsPort t.port plan (onto events past))
+    → (IsLegal plan (onto events past) → is_ace plan.header (port_of s) ≡ false → IdentifiersStand plan.header past (port_of s) s.identifiers
+    → IdentifiersStand plan.header (onto events past) (port_of s) t.identifiers)
     → IsNext plan past (port_of s) burst t.operations.items t.read t.write t.unsent → IsTurn t plan past out
-put-turn s t plan past events burst out stands same put port kept n =
+put-turn s t plan past events burst out stands same put port kept named n =
     let k : KeepsPort t.port plan (onto burst past) =
     subst (λ (es : List Event). IsLegal plan (onto es past) → KeepsPort t.port plan (onto es past)) same (kept stands.port) n.legal in
+    let i : IdentifiersStand plan.header (onto burst past) (port_of s) t.identifiers =
+    subst (λ (es : List Event). IsLegal plan (onto es past) → IdentifiersStand plan.header (onto es past) (port_of s) t.identifiers) same
+    (λ legal. named legal stands.tells.lite stands.identifiers) n.legal in
     subst (IsTurn t plan past) (sym (put ∙ same)) (record {
       step = subst (λ q. is_step_by own_steps plan past q burst ≡ true) (sym port) n.step;
       stands = record {
         port = k;
+        identifiers = subst (λ q. IdentifiersStand plan.header (onto burst past) q t.identifiers) (sym port) i;
         tells = subst (λ q. LiteTells plan (onto burst past) q t.operations.items t.read t.write t.unsent) (sym port) n.tells;
       };
     })

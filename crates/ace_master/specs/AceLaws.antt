@@ -75,6 +75,7 @@ kept-longer plan o past p s k right = record {
   ace = k.ace;
   port = k.port;
   room = k.room;
+  identifiers = k.identifiers;
   lines = k.lines;
   monitor = k.monitor;
   segment = k.segment;

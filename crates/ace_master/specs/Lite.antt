@@ -20,6 +20,7 @@ use Rattle.ace_runs.specs.Segments.{acts_made, segment}
 use Rattle.ace_runs.specs.Steps.{is_step_by}
 use Rattle.ace_portck.specs.declared.target.WriteData.{WriteData}
 use Rattle.ace_portck.specs.OnePort as one_port
+use Rattle.ace_master_state.specs.Identifiers.{IdentifiersStand}
 use Rattle.ace_master.specs.declared.lite.LiteMaster.{LiteMaster}
 use Rattle.ace_master.specs.KeptPort.{KeepsPort}
 
@@ -82,6 +83,7 @@ pub record LiteTells (plan : Plan) (past : Trace) (p : ℕ) (operations : List O
 
 pub record LiteStands (s : LiteMaster) (plan : Plan) (past : Trace) : Type 0 where
   pub port : KeepsPort s.port plan past
+  pub identifiers : IdentifiersStand plan.header past (port_of s) s.identifiers
   pub tells : LiteTells plan past (port_of s) s.operations.items s.read s.write s.unsent
 
 -- the numbers of the steps of a master

@@ -39,6 +39,7 @@ pub grows : (s : LiteMaster) (plan : Plan) (past : Trace) (o : PlanOp) → LiteS
     → is_their_operation Master (λ p. p == port_of s) o ≡ false → LiteStands s (longer plan o) past
 grows s plan past o stands right other = record {
   port = record { legal = legal-longer plan past o stands.port.legal right; kept = stands.port.kept; room = stands.port.room };
+  identifiers = stands.identifiers;
   tells = record {
     low = stands.tells.low;
     lite = stands.tells.lite;

@@ -66,7 +66,11 @@ impl AcePort {
         ensures unchanged { result ≡ false → (self.new ≡ self.old) × (out.new ≡ []) }
         ensures port { self.new.port ≡ self.old.port }
     {
-        let Some(asking) = completion_burst(&self.kept.port, &self.kept.completions) else {
+        let Some(asking) = completion_burst(
+            &self.kept.port,
+            &self.kept.identifiers,
+            &self.kept.completions,
+        ) else {
             return false;
         };
         asking.put(out);
@@ -103,6 +107,11 @@ impl AcePort {
         ensures asks { (plan : Plan) (past : Trace) → AcePortStands self.now plan past
             → IsOneOf result (bursts_of plan.ways plan.header past self.now.port (request_of op (state_named plan.header past self.now.port op))) }
     {
-        burst_for(&self.kept.port, &self.kept.lines, op)
+        burst_for(
+            &self.kept.port,
+            &self.kept.identifiers,
+            &self.kept.lines,
+            op,
+        )
     }
 }

@@ -14,15 +14,15 @@ ghost use Rattle.ace_runs.specs.Steps.{is_step_by};
 ghost use Rattle.ace_master_state.specs.AceRequests.{asks};
 ghost use Rattle.ace_master_state.specs.Cached.{CachedStands};
 ghost use Rattle.ace_master_state.specs.Completions.{CompletionsStand};
+ghost use Rattle.ace_master_state.specs.Identifiers.{IdentifiersStand};
 ghost use Rattle.ace_master.specs.Asking.{IsOneOf, MayAsk, events_of, only};
 ghost use Rattle.ace_master.specs.declared.asking.Asking.{Asking};
 
 use crate::asking::Asking;
-use crate::identifiers::{free_on, free_on_beside, free_on_both};
 use crate::issues::{ar_of, aw_of, barrier_ar, barrier_aw};
 use ace_codes::{ArKind, AwKind, LineState};
 use ace_event::{Channel, Event};
-use ace_master_state::{Cached, Completions, Request, request_of};
+use ace_master_state::{Cached, Completions, Identifiers, Request, request_of};
 use ace_model::Op;
 use ace_model::kinds::{gives_up, is_unique_write};
 use ace_portck::OnePort;
@@ -36,18 +36,24 @@ fn keeps_apart(port: &OnePort, kind: AwKind) -> bool
 }
 
 /// A read of the line, if an identifier is free.
-fn read_burst(port: &OnePort, kind: ArKind, addr: u32, lock: bool) -> Option<Asking>
-    ensures { (h : Header) (past : Trace) (p : ℕ) → OnePortStands port.now h past p → read_bursts h past p kind addr lock ≡ only result }
+fn read_burst(
+    port: &OnePort,
+    identifiers: &Identifiers,
+    kind: ArKind,
+    addr: u32,
+    lock: bool,
+) -> Option<Asking>
+    ensures { (h : Header) (past : Trace) (p : ℕ) → OnePortStands port.now h past p → IdentifiersStand h past p identifiers.now → read_bursts h past p kind addr lock ≡ only result }
 {
-    let id = free_on(port, Channel::Read)?;
+    let id = identifiers.free_on(Channel::Read)?;
     Some(Asking::One(ar_of(port.port(), id, kind, addr, lock)))
 }
 
 /// A write of the line, if an identifier is free, and no outstanding write forbids it.
-fn write_burst(port: &OnePort, kind: AwKind, addr: u32) -> Option<Asking>
-    ensures { (h : Header) (past : Trace) (p : ℕ) → OnePortStands port.now h past p → write_bursts h past p kind addr ≡ only result }
+fn write_burst(port: &OnePort, identifiers: &Identifiers, kind: AwKind, addr: u32) -> Option<Asking>
+    ensures { (h : Header) (past : Trace) (p : ℕ) → OnePortStands port.now h past p → IdentifiersStand h past p identifiers.now → write_bursts h past p kind addr ≡ only result }
 {
-    let id = free_on(port, Channel::Write)?;
+    let id = identifiers.free_on(Channel::Write)?;
     if !keeps_apart(port, kind) {
         return None;
     }
@@ -55,10 +61,10 @@ fn write_burst(port: &OnePort, kind: AwKind, addr: u32) -> Option<Asking>
 }
 
 /// Both halves of a barrier, if an identifier is free on both channels.
-fn barrier_burst(port: &OnePort, bar: u8) -> Option<Asking>
-    ensures { (h : Header) (past : Trace) (p : ℕ) → OnePortStands port.now h past p → barrier_bursts h past p bar ≡ only result }
+fn barrier_burst(port: &OnePort, identifiers: &Identifiers, bar: u8) -> Option<Asking>
+    ensures { (h : Header) (past : Trace) (p : ℕ) → OnePortStands port.now h past p → IdentifiersStand h past p identifiers.now → barrier_bursts h past p bar ≡ only result }
 {
-    let id = free_on_both(port)?;
+    let id = identifiers.free_on_both()?;
     Some(Asking::Two(
         barrier_ar(port.port(), id, bar),
         barrier_aw(port.port(), id, bar),
@@ -66,11 +72,16 @@ fn barrier_burst(port: &OnePort, bar: u8) -> Option<Asking>
 }
 
 /// Both parts of a DVM message, if two identifiers are free.
-fn message_burst(port: &OnePort, word: u32, second: u32) -> Option<Asking>
-    ensures { (h : Header) (past : Trace) (p : ℕ) → OnePortStands port.now h past p → message_bursts h past p word second ≡ only result }
+fn message_burst(
+    port: &OnePort,
+    identifiers: &Identifiers,
+    word: u32,
+    second: u32,
+) -> Option<Asking>
+    ensures { (h : Header) (past : Trace) (p : ℕ) → OnePortStands port.now h past p → IdentifiersStand h past p identifiers.now → message_bursts h past p word second ≡ only result }
 {
-    let id = free_on(port, Channel::Read)?;
-    let next = free_on_beside(port, Channel::Read, id)?;
+    let id = identifiers.free_on(Channel::Read)?;
+    let next = identifiers.free_on_beside(Channel::Read, id)?;
     Some(Asking::Two(
         ar_of(port.port(), id, ArKind::DvmMessage, word, false),
         ar_of(port.port(), next, ArKind::DvmMessage, second, false),
@@ -89,11 +100,11 @@ fn drop_burst(port: &OnePort, addr: u32) -> Asking
 }
 
 /// How the port makes room where it has none: it gives a line up, and writes a dirty one back.
-fn room_burst(port: &OnePort, lines: &Cached) -> Option<Asking>
-    ensures { (h : Header) (ways : ℕ) (past : Trace) (p : ℕ) → OnePortStands port.now h past p → CachedStands h ways past p lines.now → has_room ways h past p ≡ false
+fn room_burst(port: &OnePort, identifiers: &Identifiers, lines: &Cached) -> Option<Asking>
+    ensures { (h : Header) (ways : ℕ) (past : Trace) (p : ℕ) → OnePortStands port.now h past p → IdentifiersStand h past p identifiers.now → CachedStands h ways past p lines.now → has_room ways h past p ≡ false
         → IsOneOf result (room_bursts h past p) }
 {
-    let id = free_on(port, Channel::Write)?;
+    let id = identifiers.free_on(Channel::Write)?;
     if port.has_unique_write() {
         return None;
     }
@@ -106,14 +117,21 @@ fn room_burst(port: &OnePort, lines: &Cached) -> Option<Asking>
 }
 
 /// A read of a line that the port doesn't hold, or how it makes room for that.
-fn miss_burst(port: &OnePort, lines: &Cached, kind: ArKind, addr: u32, lock: bool) -> Option<Asking>
-    ensures { (h : Header) (ways : ℕ) (past : Trace) (p : ℕ) → OnePortStands port.now h past p → CachedStands h ways past p lines.now
+fn miss_burst(
+    port: &OnePort,
+    identifiers: &Identifiers,
+    lines: &Cached,
+    kind: ArKind,
+    addr: u32,
+    lock: bool,
+) -> Option<Asking>
+    ensures { (h : Header) (ways : ℕ) (past : Trace) (p : ℕ) → OnePortStands port.now h past p → IdentifiersStand h past p identifiers.now → CachedStands h ways past p lines.now
         → IsOneOf result (bursts_of ways h past p (Misses kind addr lock)) }
 {
     if lines.has_room() {
-        read_burst(port, kind, addr, lock)
+        read_burst(port, identifiers, kind, addr, lock)
     } else {
-        room_burst(port, lines)
+        room_burst(port, identifiers, lines)
     }
 }
 
@@ -128,41 +146,67 @@ fn state_named(lines: &Cached, op: Op) -> LineState
 }
 
 /// A burst by which the port asks, if it can.
-pub fn burst_of(port: &OnePort, lines: &Cached, request: Request) -> Option<Asking>
-    ensures { (h : Header) (ways : ℕ) (past : Trace) (p : ℕ) → OnePortStands port.now h past p → CachedStands h ways past p lines.now
+pub fn burst_of(
+    port: &OnePort,
+    identifiers: &Identifiers,
+    lines: &Cached,
+    request: Request,
+) -> Option<Asking>
+    ensures { (h : Header) (ways : ℕ) (past : Trace) (p : ℕ) → OnePortStands port.now h past p → IdentifiersStand h past p identifiers.now → CachedStands h ways past p lines.now
         → IsOneOf result (bursts_of ways h past p (asks request)) }
 {
     match request {
-        Request::Reads { kind, addr, lock } => read_burst(port, kind, addr, lock),
-        Request::Misses { kind, addr, lock } => miss_burst(port, lines, kind, addr, lock),
-        Request::Writes { kind, addr } => write_burst(port, kind, addr),
+        Request::Reads { kind, addr, lock } => read_burst(port, identifiers, kind, addr, lock),
+        Request::Misses { kind, addr, lock } => miss_burst(
+            port,
+            identifiers,
+            lines,
+            kind,
+            addr,
+            lock,
+        ),
+        Request::Writes { kind, addr } => write_burst(port, identifiers, kind, addr),
         Request::Drops { addr } => Some(drop_burst(port, addr)),
-        Request::Barriers { bar } => barrier_burst(port, bar),
-        Request::Messages { word, second } => message_burst(port, word, second),
+        Request::Barriers { bar } => barrier_burst(port, identifiers, bar),
+        Request::Messages { word, second } => message_burst(port, identifiers, word, second),
     }
 }
 
 /// What the port asks for by its next operation, which doesn't wait and can't end.
-pub fn burst_for(port: &OnePort, lines: &Cached, op: Op) -> Option<Asking>
-    ensures asks { (h : Header) (ways : ℕ) (past : Trace) (p : ℕ) → OnePortStands port.now h past p → CachedStands h ways past p lines.now
+pub fn burst_for(
+    port: &OnePort,
+    identifiers: &Identifiers,
+    lines: &Cached,
+    op: Op,
+) -> Option<Asking>
+    ensures asks { (h : Header) (ways : ℕ) (past : Trace) (p : ℕ) → OnePortStands port.now h past p → IdentifiersStand h past p identifiers.now → CachedStands h ways past p lines.now
         → IsOneOf result (bursts_of ways h past p (request_of op (state_named h past p op))) }
-    ensures step { (plan : Plan) (past : Trace) (p : ℕ) (asking : Asking) → OnePortStands port.now plan.header past p → CachedStands plan.header plan.ways past p lines.now
+    ensures step { (plan : Plan) (past : Trace) (p : ℕ) (asking : Asking) → OnePortStands port.now plan.header past p → IdentifiersStand plan.header past p identifiers.now → CachedStands plan.header plan.ways past p lines.now
         → MayAsk plan past p op → result ≡ Some asking → is_step_by (14 ∷ []) plan past p (and_closing plan.header past p op (events_of asking)) ≡ true }
-    ensures none { (plan : Plan) (past : Trace) (p : ℕ) → OnePortStands port.now plan.header past p → CachedStands plan.header plan.ways past p lines.now
+    ensures none { (plan : Plan) (past : Trace) (p : ℕ) → OnePortStands port.now plan.header past p → IdentifiersStand plan.header past p identifiers.now → CachedStands plan.header plan.ways past p lines.now
         → MayAsk plan past p op → result ≡ None → moves_of plan.ways plan.header past p op ≡ [] }
 {
-    burst_of(port, lines, request_of(op, state_named(lines, op)))
+    burst_of(
+        port,
+        identifiers,
+        lines,
+        request_of(op, state_named(lines, op)),
+    )
 }
 
 /// The AR of a DVM Complete that the port, an ACE port, owes, if an identifier is free.
-pub fn completion_burst(port: &OnePort, completions: &Completions) -> Option<Asking>
-    ensures burst { (h : Header) (past : Trace) (p : ℕ) → OnePortStands port.now h past p → CompletionsStand past p completions.now → is_ace h p ≡ true
+pub fn completion_burst(
+    port: &OnePort,
+    identifiers: &Identifiers,
+    completions: &Completions,
+) -> Option<Asking>
+    ensures burst { (h : Header) (past : Trace) (p : ℕ) → OnePortStands port.now h past p → IdentifiersStand h past p identifiers.now → CompletionsStand past p completions.now → is_ace h p ≡ true
         → completion_bursts h past p ≡ only result }
-    ensures step { (plan : Plan) (past : Trace) (p : ℕ) (asking : Asking) → OnePortStands port.now plan.header past p → CompletionsStand past p completions.now
+    ensures step { (plan : Plan) (past : Trace) (p : ℕ) (asking : Asking) → OnePortStands port.now plan.header past p → IdentifiersStand plan.header past p identifiers.now → CompletionsStand past p completions.now
         → is_ace plan.header p ≡ true → result ≡ Some asking → is_step_by (14 ∷ []) plan past p (events_of asking) ≡ true }
 {
     if completions.owes() {
-        read_burst(port, ArKind::DvmComplete, 0, false)
+        read_burst(port, identifiers, ArKind::DvmComplete, 0, false)
     } else {
         None
     }

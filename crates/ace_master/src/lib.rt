@@ -9,7 +9,6 @@ mod answering;
 mod asking;
 mod bursts;
 mod going_on;
-mod identifiers;
 mod issues;
 mod kept_burst;
 mod kept_port;

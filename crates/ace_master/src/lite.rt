@@ -16,7 +16,6 @@ ghost use Rattle.ace_master.specs.Lite.{IsAsking, IsTurn, LiteStands, is_line_bu
 ghost use Rattle.ace_master.specs.LiteRequests.{lite_request};
 
 use crate::Master;
-use crate::identifiers::{free_on, free_on_both};
 use crate::issues::{ar_of, aw_of, barrier_ar, barrier_aw, is_no_snoop_write};
 use crate::kept_port::{note, put, retirement};
 use crate::lite_requests::{LiteRequest, lite_request};
@@ -26,6 +25,7 @@ use ace_codes::{ArKind, AwKind};
 use ace_engine::{Burst, Engine};
 use ace_event::{Channel, Event};
 use ace_io::NoMemory;
+use ace_master_state::Identifiers;
 use ace_model::{Op, PlanView, Transaction};
 use ace_portck::{OnePort, WriteData, issued};
 use std::alloc::Global;
@@ -34,6 +34,8 @@ use std::alloc::Global;
 #[derive(Drop)]
 pub struct LiteMaster {
     port: OnePort,
+    /// The identifiers of its outstanding transactions.
+    identifiers: Identifiers,
     /// The port's operations, in order.
     operations: PortOperations,
     /// What it has issued for its next operation, on each channel.
@@ -63,6 +65,7 @@ impl LiteMaster {
         };
         Ok(LiteMaster {
             port,
+            identifiers: Identifiers::none(),
             operations,
             read: None,
             write: None,
@@ -140,7 +143,7 @@ impl LiteMaster {
         ensures port { port_of self.new ≡ port_of self.old }
     {
         let burst = beats(self.port.port(), carried);
-        put(&mut self.port, &burst, out);
+        put(&mut self.port, &mut self.identifiers, &burst, out);
         self.unsent = None;
     }
 
@@ -159,51 +162,58 @@ impl LiteMaster {
         ensures port { port_of self.new ≡ port_of self.old }
     {
         let op = self.op();
-        put(&mut self.port, &[op], out);
+        put(&mut self.port, &mut self.identifiers, &[op], out);
         self.read = None;
         self.write = None;
     }
 
-    /// Puts the AR of a read, if an identifier is free.
-    fn ask_read(&mut self, kind: ArKind, addr: u32, out: &mut Burst) -> bool
+    /// Puts the AR of a read, if an identifier is free and no transaction of the port on the line is outstanding.
+    fn ask_read(&mut self, op: Op, kind: ArKind, addr: u32, out: &mut Burst) -> bool
         requires { out.old ≡ [] }
-        ensures turn { IsTrue result → (plan : Plan) (past : Trace) (op : Op) → IsAsking self.old plan past op → is_line_busy plan.header past (port_of self.old) op ≡ false → lite_request op ≡ Some (Read kind addr)
+        ensures turn { IsTrue result → (plan : Plan) (past : Trace) → IsAsking self.old plan past op → lite_request op ≡ Some (Read kind addr)
             → IsTurn self.new plan past out.new }
-        ensures none { result ≡ false → (plan : Plan) (past : Trace) (op : Op) → IsAsking self.old plan past op → is_line_busy plan.header past (port_of self.old) op ≡ false → lite_request op ≡ Some (Read kind addr)
+        ensures none { result ≡ false → (plan : Plan) (past : Trace) → IsAsking self.old plan past op → lite_request op ≡ Some (Read kind addr)
             → is_enabled_by own_steps plan past (port_of self.old) ≡ false }
         ensures unchanged { result ≡ false → (self.new ≡ self.old) × (out.new ≡ []) }
         ensures port { port_of self.new ≡ port_of self.old }
     {
-        let Some(id) = free_on(&self.port, Channel::Read) else {
+        let Some(id) = self.identifiers.free_on(Channel::Read) else {
             return false;
         };
+        if self.is_line_busy(op) {
+            return false;
+        }
         let asks = ar_of(self.port.port(), id, kind, addr, false);
         self.read = issued(self.port.count(), &asks);
-        put(&mut self.port, &[asks], out);
+        put(&mut self.port, &mut self.identifiers, &[asks], out);
         true
     }
 
-    /// Puts the AW of a write, if an identifier is free. A write that the operation doesn't wait for retires it.
+    /// Puts the AW of a write, if an identifier is free and no transaction of the port on the line is outstanding. A write that the operation doesn't wait for
+    /// retires it.
     fn ask_write(&mut self, op: Op, kind: AwKind, addr: u32, out: &mut Burst) -> bool
         requires { out.old ≡ [] }
-        ensures turn { IsTrue result → (plan : Plan) (past : Trace) → IsAsking self.old plan past op → is_line_busy plan.header past (port_of self.old) op ≡ false → lite_request op ≡ Some (Write kind addr)
+        ensures turn { IsTrue result → (plan : Plan) (past : Trace) → IsAsking self.old plan past op → lite_request op ≡ Some (Write kind addr)
             → IsTurn self.new plan past out.new }
-        ensures none { result ≡ false → (plan : Plan) (past : Trace) → IsAsking self.old plan past op → is_line_busy plan.header past (port_of self.old) op ≡ false → lite_request op ≡ Some (Write kind addr)
+        ensures none { result ≡ false → (plan : Plan) (past : Trace) → IsAsking self.old plan past op → lite_request op ≡ Some (Write kind addr)
             → is_enabled_by own_steps plan past (port_of self.old) ≡ false }
         ensures unchanged { result ≡ false → (self.new ≡ self.old) × (out.new ≡ []) }
         ensures port { port_of self.new ≡ port_of self.old }
     {
-        let Some(id) = free_on(&self.port, Channel::Write) else {
+        let Some(id) = self.identifiers.free_on(Channel::Write) else {
             return false;
         };
+        if self.is_line_busy(op) {
+            return false;
+        }
         let asks = aw_of(self.port.port(), id, kind, addr);
         let retires = self.op();
         self.unsent = data_of(op);
         if is_no_snoop_write(kind) {
             self.write = issued(self.port.count(), &asks);
-            put(&mut self.port, &[asks], out);
+            put(&mut self.port, &mut self.identifiers, &[asks], out);
         } else {
-            put(&mut self.port, &[asks, retires], out);
+            put(&mut self.port, &mut self.identifiers, &[asks, retires], out);
         }
         true
     }
@@ -218,7 +228,7 @@ impl LiteMaster {
         ensures unchanged { result ≡ false → (self.new ≡ self.old) × (out.new ≡ []) }
         ensures port { port_of self.new ≡ port_of self.old }
     {
-        let Some(id) = free_on_both(&self.port) else {
+        let Some(id) = self.identifiers.free_on_both() else {
             return false;
         };
         let first = barrier_ar(self.port.port(), id, bar);
@@ -226,11 +236,11 @@ impl LiteMaster {
         let place = self.port.count();
         self.read = issued(place, &first);
         self.write = issued(place.wrapping_add(1), &second);
-        put(&mut self.port, &[first, second], out);
+        put(&mut self.port, &mut self.identifiers, &[first, second], out);
         true
     }
 
-    /// Puts what the operation asks for, unless it has to wait.
+    /// Puts what the operation asks for, unless it has to wait. Where no identifier is free, no outstanding transaction is looked at.
     fn ask(&mut self, op: Op, out: &mut Burst) -> bool
         requires { out.old ≡ [] }
         ensures turn { IsTrue result → (plan : Plan) (past : Trace) → IsAsking self.old plan past op
@@ -240,11 +250,8 @@ impl LiteMaster {
         ensures unchanged { result ≡ false → (self.new ≡ self.old) × (out.new ≡ []) }
         ensures port { port_of self.new ≡ port_of self.old }
     {
-        if self.is_line_busy(op) {
-            return false;
-        }
         match lite_request(op) {
-            Some(LiteRequest::Read { kind, addr }) => self.ask_read(kind, addr, out),
+            Some(LiteRequest::Read { kind, addr }) => self.ask_read(op, kind, addr, out),
             Some(LiteRequest::Write { kind, addr }) => self.ask_write(op, kind, addr, out),
             Some(LiteRequest::Barrier { bar }) => self.ask_barrier(bar, out),
             None => false,
@@ -301,7 +308,7 @@ impl Engine for LiteMaster {
     }
 
     fn hear(&mut self, event: &Event) {
-        note(&mut self.port, event);
+        note(&mut self.port, &mut self.identifiers, event);
     }
 }
 

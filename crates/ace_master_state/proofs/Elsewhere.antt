@@ -29,6 +29,7 @@ use Rattle.ace_master_state.specs.Monitor.{MonitorStands}
 use Rattle.ace_master_state.specs.Segment.{SegmentStands}
 use Rattle.ace_master_state.specs.Syncs.{SyncsStand}
 use Rattle.ace_master_state.proofs.ArrivingHeard.{arriving-heard, elsewhere-brings}
+use Rattle.ace_master_state.proofs.IdentifierMoves.{stands-elsewhere}
 use Rattle.ace_master_state.proofs.LinesHeard.{held-elsewhere, state-elsewhere}
 use Rattle.ace_master_state.proofs.SegmentMoves.{acts-elsewhere, segment-elsewhere}
 use Rattle.ace_master_state.proofs.SyncMoves.{completed-elsewhere, unanswered-elsewhere, waits-elsewhere}
@@ -111,6 +112,7 @@ monitor-stays h past p e a apart s k = record { port = k.port; set = λ l. same 
 pub rest-stays : (plan : Plan) (past : Trace) (p : ℕ) (e : Event) → IsLegal plan (e ∷ past) → is_at_port p e ≡ false → FitsFields e
     → (port_of e ≡ Some p → HasLowId e) → (s : Kept) → KeptStands plan past p s → RestStands plan (e ∷ past) p s
 rest-stays plan past p e legal apart fits low s k = record {
+  identifiers = stands-elsewhere plan.header past p e apart s.identifiers k.identifiers;
   lines = lines-elsewhere plan past p e legal apart s.lines fits low k.lines;
   monitor = monitor-stays plan.header past p e legal.accepted apart s.monitor k.monitor;
   segment = segment-stays plan past p e legal apart s.segment k.segment;

@@ -26,6 +26,14 @@ pub mod MonitorMoves
 pub mod PartOrder
 -- The Syncs that a port has answered.
 pub mod SyncsAnswered
+-- Identifiers as the bits of a word.
+pub mod IdentifierBits
+-- Which identifiers of a port are free after an event.
+pub mod FreeIdentifiers
+-- What an event leaves of the identifiers in use.
+pub mod IdentifierMoves
+-- The least identifier that passes a test.
+pub mod LeastIdentifiers
 -- What is kept of a port may hear each event that an engine may.
 pub mod KeptHears
 -- A loop that looks for an element which passes a test.

@@ -12,6 +12,8 @@ pub mod Monitor
 pub mod AceRequests
 -- The DVM Completes that a port owes.
 pub mod Completions
+-- The identifiers that the outstanding transactions of a port have.
+pub mod Identifiers
 -- What the master of an ACE port keeps, all in one.
 pub mod Kept
 -- What is looked for among the transactions for an operation.

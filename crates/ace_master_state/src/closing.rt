@@ -178,6 +178,6 @@ impl Kept {
     pub fn is_waiting(&self, op: Op) -> bool
         ensures { (plan : Plan) (past : Trace) (p : ℕ) → KeptStands plan past p self.now → result ≡ is_waiting plan.header past p op }
     {
-        self.is_line_busy(op) || self.awaits_update() || self.segment.acts() != 0
+        self.segment.acts() != 0 || self.is_line_busy(op) || self.awaits_update()
     }
 }

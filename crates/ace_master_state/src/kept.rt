@@ -4,11 +4,12 @@ ghost use Rattle.std.specs.Prelude.{◌≡◌, ◌≤◌, ◌∷◌, ℕ, [], tr
 ghost use Rattle.ace_model.specs.Plans.{IsRight, Plan};
 ghost use Rattle.ace_model.specs.Trace.{Trace, port_of};
 ghost use Rattle.ace_model.specs.Transactions.{is_ace};
+ghost use Rattle.ace_runs.specs.Segments.{is_at_port};
 ghost use Rattle.ace_engine.specs.Engines.{IsLegal};
 ghost use Rattle.ace_master_state.specs.Cached.{HasLowId};
 ghost use Rattle.ace_master_state.specs.Kept.{KeptStands, RestStands};
 
-use crate::{Cached, Completions, Monitor, Segment, Syncs};
+use crate::{Cached, Completions, Identifiers, Monitor, Segment, Syncs};
 use ace_event::Event;
 use ace_event::laws::every_event_fits;
 use ace_io::NoMemory;
@@ -21,6 +22,8 @@ use std::alloc::Global;
 pub struct Kept {
     /// Its transactions and snoops under way.
     pub port: OnePort,
+    /// The identifiers of its outstanding transactions.
+    pub identifiers: Identifiers,
     /// The lines that it holds.
     pub lines: Cached,
     pub monitor: Monitor,
@@ -50,6 +53,7 @@ impl Kept {
         };
         Ok(Kept {
             port: of_port,
+            identifiers: Identifiers::none(),
             lines,
             monitor: Monitor::new(port),
             segment,
@@ -65,10 +69,12 @@ impl Kept {
     fn note_own(&mut self, event: &Event)
         ensures rest { (plan : Plan) (past : Trace) (p : ℕ) → KeptStands plan past p self.old
             → IsLegal plan (event.now ∷ past) → (port_of event.now ≡ Some p → HasLowId event.now)
+            → is_at_port p event.now ≡ true
             → RestStands plan (event.now ∷ past) p self.new }
         ensures port { self.new.port ≡ self.old.port }
     {
         let place = self.port.count();
+        self.identifiers.hear(&self.port, event);
         self.lines.hear(&self.port, event);
         self.monitor.hear(event, &self.lines);
         self.segment.hear(event, place);

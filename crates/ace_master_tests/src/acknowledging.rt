@@ -5,7 +5,7 @@ use ace_codes::LineState::{self, I, SC, UC, UD};
 use ace_engine::Burst;
 use ace_event::{Channel, Event, Header, Line, Outcome};
 use ace_master::AcePort;
-use ace_master_state::{Cached, Completions, Kept, Monitor, Segment, Syncs};
+use ace_master_state::{Cached, Completions, Identifiers, Kept, Monitor, Segment, Syncs};
 use ace_model::Op;
 use ace_portck::OnePort;
 use std::alloc::Global;
@@ -25,6 +25,7 @@ const LINE: Line = Line {
 fn port(alloc: Global, of: &[Op]) -> Result<AcePort, Fail> {
     let kept = Kept {
         port: OnePort::new(alloc, HEADER, 0, 8)?,
+        identifiers: Identifiers::none(),
         lines: Cached::new(alloc, 2)?,
         monitor: Monitor::new(0),
         segment: Segment::new(alloc, 0)?,

@@ -3,7 +3,7 @@
 use ace_codes::{ArKind, AwKind, LineState};
 use ace_event::{Channel, Event, Header, Line};
 use ace_master::{Asking, burst_of, completion_burst};
-use ace_master_state::{Cached, Completions, Request};
+use ace_master_state::{Cached, Completions, Identifiers, Request};
 use ace_portck::OnePort;
 use std::alloc::Global;
 use std::test::Fail;
@@ -18,25 +18,28 @@ const HEADER: Header = Header {
 #[derive(Drop)]
 struct Kept {
     port: OnePort,
+    identifiers: Identifiers,
     lines: Cached,
 }
 
 fn start(alloc: Global) -> Result<Kept, Fail> {
     Ok(Kept {
         port: OnePort::new(alloc, HEADER, 0, 8)?,
+        identifiers: Identifiers::none(),
         lines: Cached::new(alloc, 1)?,
     })
 }
 
 fn hear(kept: &mut Kept, events: &[Event]) {
     for event in events {
+        kept.identifiers.hear(&kept.port, event);
         kept.lines.hear(&kept.port, event);
         kept.port.hear(event);
     }
 }
 
 fn asks(kept: &Kept, request: Request) -> Option<Asking> {
-    burst_of(&kept.port, &kept.lines, request)
+    burst_of(&kept.port, &kept.identifiers, &kept.lines, request)
 }
 
 fn ar(id: u8, addr: u32, snoop: u8) -> Event {
@@ -211,8 +214,9 @@ fn makes_room(rt: HostRuntime) -> Result<(), Fail> {
 
 /// A port that has answered a Sync asks with a DVM Complete.
 fn completes(port: &mut OnePort) -> bool {
+    let identifiers = Identifiers::none();
     let mut completions = Completions::new(0);
-    if completion_burst(port, &completions) != None {
+    if completion_burst(port, &identifiers, &completions) != None {
         return false;
     }
     let snooped = Event::Ac {
@@ -229,7 +233,7 @@ fn completes(port: &mut OnePort) -> bool {
         completions.hear(port, event);
         port.hear(event);
     }
-    completion_burst(port, &completions) == Some(Asking::One(ar(0, 0, 14)))
+    completion_burst(port, &identifiers, &completions) == Some(Asking::One(ar(0, 0, 14)))
 }
 
 #[test]

@@ -5,7 +5,7 @@ use ace_codes::LineState::{self, I, SC, UC, UD};
 use ace_engine::Burst;
 use ace_event::{Channel, Event, Header, Line, Outcome};
 use ace_master::AcePort;
-use ace_master_state::{Cached, Completions, Kept, Monitor, Segment, Syncs};
+use ace_master_state::{Cached, Completions, Identifiers, Kept, Monitor, Segment, Syncs};
 use ace_model::Op;
 use ace_policy::Keep;
 use ace_portck::OnePort;
@@ -22,6 +22,7 @@ const HEADER: Header = Header {
 fn port(alloc: Global, of: &[Op]) -> Result<AcePort, Fail> {
     let kept = Kept {
         port: OnePort::new(alloc, HEADER, 0, 8)?,
+        identifiers: Identifiers::none(),
         lines: Cached::new(alloc, 1)?,
         monitor: Monitor::new(0),
         segment: Segment::new(alloc, 0)?,
@@ -313,6 +314,71 @@ fn fails_a_lost_store(rt: HostRuntime) -> Result<(), Fail> {
     };
     let mut port = port(rt.alloc(), &[load, store])?;
     let holds = loads_exclusively(&mut port) && loses_the_line(&mut port);
+    drop(port);
+    assert!(rt; holds);
+    Ok(())
+}
+
+fn writes_a_line(line: u32) -> Op {
+    Op::Wlu {
+        addr: line.wrapping_mul(64),
+        line: Line { words: [1; 4] },
+    }
+}
+
+/// The port sends the data of a write.
+fn sends_data(port: &mut AcePort) -> bool {
+    let mut given = Burst::empty();
+    port.send(&mut given) && given.len() == 4
+}
+
+/// The port's next step writes the line under the identifier, and it sends the data.
+fn writes_under(port: &mut AcePort, id: u8, line: u32, k: u16) -> bool {
+    let asks = Event::Aw {
+        port: 0,
+        id,
+        addr: line.wrapping_mul(64),
+        snoop: 1,
+        dom: 1,
+        bar: 0,
+    };
+    steps(port, &[asks, op(k, Outcome::Ok)]) && sends_data(port)
+}
+
+/// The port writes sixteen lines.
+fn writes_sixteen(port: &mut AcePort) -> bool {
+    for k in 0..16 {
+        if !writes_under(port, k, u32::from(k), u16::from(k)) {
+            return false;
+        }
+    }
+    true
+}
+
+/// It waits then, until one of them is acknowledged: then it writes another under the same identifier.
+fn waits_for_an_identifier(port: &mut AcePort) -> bool {
+    if !steps(port, &[]) {
+        return false;
+    }
+    let responds = Event::B {
+        port: 0,
+        id: 5,
+        resp: 0,
+    };
+    hear(port, &[responds]);
+    steps(port, &[Event::Wk { port: 0, st: I }])
+        && writes_under(port, 5, 16, 16)
+        && steps(port, &[])
+}
+
+#[test]
+fn writes_under_each_identifier(rt: HostRuntime) -> Result<(), Fail> {
+    let mut of = [writes_a_line(0); 17];
+    for k in 0..17 {
+        of[k] = writes_a_line(k as u32);
+    }
+    let mut port = port(rt.alloc(), &of)?;
+    let holds = writes_sixteen(&mut port) && waits_for_an_identifier(&mut port);
     drop(port);
     assert!(rt; holds);
     Ok(())

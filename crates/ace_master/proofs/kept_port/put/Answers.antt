@@ -5,6 +5,9 @@ use Rattle.ace_event.specs.declared.event.Event.{Event}
 use Rattle.ace_event.specs.declared.event.Event.TheVariants.{Ar}
 use Rattle.ace_runs.specs.Bursts.{onto}
 use Rattle.ace_engine.proofs.Heard.{legal-next, onto-next}
+use Rattle.ace_model.specs.Transactions.{is_ace}
+use Rattle.ace_portck.specs.OnePort.{port_of}
+use Rattle.ace_master_state.specs.Identifiers.{IdentifiersStand}
 use Rattle.ace_master.specs.KeptPort.{KeepsPort}
 use Rattle.ace_master.proofs.kept_port.put.Goals as goal
 
@@ -25,6 +28,12 @@ loop-event-preserved c =
       kept = λ plan past k legal.
           subst (KeepsPort c.note.new.port plan) (sym (onto-next xs i d past low))
           (c.note.ensures.kept plan (onto (take i xs) past) (c.loop-event.invariant.kept plan past k legal) (legal-next plan xs i d past low legal));
+      identifiers = λ plan past legal lite s.
+          let q = c.loop-event.invariant.port in
+          let now = subst (λ r. IdentifiersStand plan.header (onto (take i xs) past) r c.loop-event.identifiers) (sym q) (c.loop-event.invariant.identifiers plan past legal lite s) in
+          let later = c.note.ensures.identifiers plan (onto (take i xs) past) (legal-next plan xs i d past low legal) (ap (is_ace plan.header) q ∙ lite) now in
+          subst (λ t. IdentifiersStand plan.header t (port_of c.args.port.now) c.note.new.identifiers) (sym (onto-next xs i d past low))
+          (subst (λ r. IdentifiersStand plan.header (get_or xs i d ∷ onto (take i xs) past) r c.note.new.identifiers) q later);
       port = c.note.ensures.port ∙ c.loop-event.invariant.port;
       burst =
           c.push.ensures ∙ ap (λ (es : List Event). es ++ get_or xs i d ∷ []) c.loop-event.invariant.burst ∙ append_assoc c.args.out.now (take i xs) (get_or xs i d ∷ [])

@@ -12,8 +12,8 @@ returns-clause-turn c = λ done plan past s.
     let asking = c.in-Some.asking in
     let burst : c.put.new.out ≡ events_of asking = c.put.ensures ∙ ap (λ (es : List Event). es ++ events_of asking) c.requires in
     let is : completion_bursts plan.header past p ≡ events_of asking ∷ [] =
-    c.completion_burst.ensures.burst plan.header past p s.kept.port s.kept.completions s.kept.ace ∙ ap only c.in-Some.is in
-    let step = c.completion_burst.ensures.step plan past p asking s.kept.port s.kept.completions s.kept.ace c.in-Some.is in
+    c.completion_burst.ensures.burst plan.header past p s.kept.port s.kept.identifiers s.kept.completions s.kept.ace ∙ ap only c.in-Some.is in
+    let step = c.completion_burst.ensures.step plan past p asking s.kept.port s.kept.identifiers s.kept.completions s.kept.ace c.in-Some.is in
     let taken : IsTaken plan past p c.put.new.out m.operations.items m.unsent =
     subst (λ es. IsTaken plan past p es m.operations.items m.unsent) (sym burst)
     (completion-taken plan past p (events_of asking) s.kept.ace s.kept.legal m.operations.items m.unsent s.tells is step) in

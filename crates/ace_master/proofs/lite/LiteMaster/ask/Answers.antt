@@ -1,30 +1,23 @@
 use Rattle.std.proofs.Common.{Some, sym, ap, ◌∙◌}
 use Rattle.ace_master.specs.Lite.{port_of}
-use Rattle.ace_master.proofs.LiteNext.{asking-tells}
-use Rattle.ace_master.proofs.LiteWaits.{asks-something, for-lite, line-waits}
+use Rattle.ace_master.proofs.LiteWaits.{asks-something, for-lite}
 use Rattle.ace_master.proofs.lite.LiteMaster.ask.Goals as goal
-
-pub returns-then-is_line_busy-clause-none : goal.returns-then-is_line_busy-clause-none
-returns-then-is_line_busy-clause-none c = λ still plan past a.
-    let s = c.args.self.now in
-    line-waits plan past (port_of s) a.stands.port.legal s.operations.items c.args.op (asking-tells s plan past c.args.op a) a.next
-    (sym (c.is_line_busy.ensures plan past a.stands) ∙ c.if-is_line_busy.true)
 
 pub returns-in-Some-Read-clause-turn : goal.returns-in-Some-Read-clause-turn
 returns-in-Some-Read-clause-turn c = λ moved plan past a.
-    c.ask_read.ensures.turn moved plan past c.args.op a (sym (c.is_line_busy.ensures plan past a.stands) ∙ c.if-is_line_busy.false) (sym c.lite_request.ensures ∙ c.in-Some-Read.is ∙ ap Some c.in-Some-Read.field-0-is)
+    c.ask_read.ensures.turn moved plan past a (sym c.lite_request.ensures ∙ c.in-Some-Read.is ∙ ap Some c.in-Some-Read.field-0-is)
 
 pub returns-in-Some-Read-clause-none : goal.returns-in-Some-Read-clause-none
 returns-in-Some-Read-clause-none c = λ still plan past a.
-    c.ask_read.ensures.none still plan past c.args.op a (sym (c.is_line_busy.ensures plan past a.stands) ∙ c.if-is_line_busy.false) (sym c.lite_request.ensures ∙ c.in-Some-Read.is ∙ ap Some c.in-Some-Read.field-0-is)
+    c.ask_read.ensures.none still plan past a (sym c.lite_request.ensures ∙ c.in-Some-Read.is ∙ ap Some c.in-Some-Read.field-0-is)
 
 pub returns-in-Some-Write-clause-turn : goal.returns-in-Some-Write-clause-turn
 returns-in-Some-Write-clause-turn c = λ moved plan past a.
-    c.ask_write.ensures.turn moved plan past a (sym (c.is_line_busy.ensures plan past a.stands) ∙ c.if-is_line_busy.false) (sym c.lite_request.ensures ∙ c.in-Some-Write.is ∙ ap Some c.in-Some-Write.field-0-is)
+    c.ask_write.ensures.turn moved plan past a (sym c.lite_request.ensures ∙ c.in-Some-Write.is ∙ ap Some c.in-Some-Write.field-0-is)
 
 pub returns-in-Some-Write-clause-none : goal.returns-in-Some-Write-clause-none
 returns-in-Some-Write-clause-none c = λ still plan past a.
-    c.ask_write.ensures.none still plan past a (sym (c.is_line_busy.ensures plan past a.stands) ∙ c.if-is_line_busy.false) (sym c.lite_request.ensures ∙ c.in-Some-Write.is ∙ ap Some c.in-Some-Write.field-0-is)
+    c.ask_write.ensures.none still plan past a (sym c.lite_request.ensures ∙ c.in-Some-Write.is ∙ ap Some c.in-Some-Write.field-0-is)
 
 pub returns-in-Some-Barrier-clause-turn : goal.returns-in-Some-Barrier-clause-turn
 returns-in-Some-Barrier-clause-turn c = λ moved plan past a. c.ask_barrier.ensures.turn moved plan past c.args.op a (sym c.lite_request.ensures ∙ c.in-Some-Barrier.is ∙ ap Some c.in-Some-Barrier.field-0-is)

@@ -18,7 +18,7 @@ returns-clause-turn c = λ moved plan past op a asks.
     let i = c.in-Some.id in
     let b = barrier-of op bar asks in
     let kept = a.stands.port.kept in
-    let free : free_on_both plan.header past p ≡ Some i = sym (c.free_on_both.ensures plan.header past p kept) ∙ c.in-Some.is in
+    let free : free_on_both plan.header past p ≡ Some i = sym (c.free_on_both.ensures plan.header past p a.stands.identifiers) ∙ c.in-Some.is in
     let d : Event = barrier_ar p i bar in
     let e : Event = barrier_aw p i bar in
     let first : c.barrier_ar-first.result ≡ d = c.barrier_ar-first.ensures ∙ ap (λ q. barrier_ar q i bar) c.port.ensures in
@@ -32,7 +32,7 @@ returns-clause-turn c = λ moved plan past op a asks.
     let writes : c.issued-self-2.result ≡ Some y = c.issued-self-2.ensures ∙ ap (issued ((c.count-place.result + 1) % 2 ^ 64)) second ∙ ap (λ n. issued n e) later in
     put-turn s _ plan past (c.barrier_ar-first.result ∷ c.barrier_aw-second.result ∷ []) (d ∷ e ∷ []) c.put.new.out a.stands
     (ap (λ (v : Event). v ∷ c.barrier_aw-second.result ∷ []) first ∙ ap (λ (v : Event). d ∷ v ∷ []) second)
-    (c.put.ensures.burst ∙ ap (λ (es : List Event). es ++ c.barrier_ar-first.result ∷ c.barrier_aw-second.result ∷ []) c.requires) c.put.ensures.port (c.put.ensures.kept plan past)
+    (c.put.ensures.burst ∙ ap (λ (es : List Event). es ++ c.barrier_ar-first.result ∷ c.barrier_aw-second.result ∷ []) c.requires) c.put.ensures.port (c.put.ensures.kept plan past) (c.put.ensures.identifiers plan past)
     (next-as plan past p (d ∷ e ∷ []) s.operations.items (Some x) (Some y) c.issued-self.result c.issued-self-2.result None s.unsent reads writes a.sent
     (barrier-next plan past p a.stands.port.legal s.operations.items (asking-tells s plan past op a) op a.next bar b i free))
 
@@ -41,4 +41,4 @@ returns-in_default-clause-none c = λ still plan past op a asks.
     let s = c.args.self.now in
     let p = port_of s in
     no-barrier plan past p a.stands.port.legal s.operations.items (asking-tells s plan past op a) op a.next c.args.bar (barrier-of op c.args.bar asks)
-    (sym (c.free_on_both.ensures plan.header past p a.stands.port.kept) ∙ c.in_default.is)
+    (sym (c.free_on_both.ensures plan.header past p a.stands.identifiers) ∙ c.in_default.is)

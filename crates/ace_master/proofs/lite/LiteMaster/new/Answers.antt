@@ -26,5 +26,6 @@ returns-clause-stands c =
         kept = subst (OnePortStands s plan.header []) (sym same) kept;
         room = λ ace. let bad : true ≡ false = sym ace ∙ ap (is_ace plan.header) same ∙ c.requires.lite in cc;
       };
+      identifiers = c.none.ensures plan.header s.port;
       tells = subst (λ q. LiteTells plan [] q c.in_ok-operations.operations.items None None None) (sym same) tells;
     }

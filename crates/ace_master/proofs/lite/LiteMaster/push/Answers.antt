@@ -24,6 +24,7 @@ returns-clause-stands c = λ plan past s right.
     let t = s.tells in
     record {
       port = record { legal = legal-longer plan past o s.port.legal right; kept = s.port.kept; room = s.port.room };
+      identifiers = s.identifiers;
       tells = record {
         low = t.low;
         lite = t.lite;

@@ -15,6 +15,7 @@ returns c = λ plan past p k legal low.
       ace = k.ace;
       port = c.hear.ensures.stands h past p (subst (λ (v : OnePort). MayHear v h past p e) same (may-hear plan past e p c.args.self.now k legal));
       room = c.hear.ensures.room 24576 (subst (λ (v : OnePort). IsRoomy 24576 v) same k.room);
+      identifiers = rest.identifiers;
       lines = rest.lines;
       monitor = rest.monitor;
       segment = rest.segment;

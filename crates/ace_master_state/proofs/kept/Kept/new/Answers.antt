@@ -13,6 +13,7 @@ returns c =
       ace = c.requires.ace;
       port = subst (λ (h : Header). OnePortStands c.in-Ok.of_port h [] p) c.header.ensures c.in-Ok.ensures.stands;
       room = c.in-Ok.ensures.room;
+      identifiers = c.none.ensures plan.header p;
       lines = subst (λ n. CachedStands plan.header n [] p c.in_ok-lines.lines) c.ways.ensures (c.in_ok-lines.ensures plan.header p);
       monitor = c.new-4.ensures plan.header;
       segment = c.in_ok-segment.ensures;
