@@ -49,6 +49,7 @@ impl Checker {
     ghost use Rattle.ace_model.specs.Copies.{memory_of};
     ghost use Rattle.ace_portck.specs.Stands.{Stands as Tell};
     ghost use Rattle.ace_check.specs.Run.{Stands, StandsWithin, IsAnswerWithin, IsSound, goes_over_within, past_after, break_after, MayLackMemory};
+    ghost use Rattle.ace_check.specs.Shares.{SharesTell};
 
     /// The checker of the empty trace under this header, whose transactions may name 4,096 lines. Its
     /// only refusal is `NoMemory`.
@@ -130,6 +131,15 @@ impl Checker {
             Heard::TooManyLines => Err(CheckErr::TooManyLines),
             Heard::NoMemory => Err(CheckErr::NoMemory),
         }
+    }
+
+    /// What is kept of the trace: of each port, of each line and of the system. After an event that
+    /// breaks a rule it is that before the event.
+    pub fn shares(&self) -> &Shares
+        ensures { (most : ℕ) (h : Header) (past : Trace) (b : Option Break)
+            → StandsWithin most self.now h past b → SharesTell result.now h past }
+    {
+        &self.shares
     }
 
     /// What is kept of each port.

@@ -12,7 +12,7 @@ use Rattle.ace_model.specs.Trace.{Trace, implies, is_some_and}
 use Rattle.ace_model.specs.Kinds.{is_message_snoop}
 use Rattle.ace_model.specs.Transactions.{is_ace}
 use Rattle.ace_model.specs.Progress.{IsTransaction}
-use Rattle.ace_model.specs.Messages.{has_second, is_sync_word, is_second_part, is_sync, parts_for, answered_parts, parts_among, forwarded, next_part}
+use Rattle.ace_model.specs.Messages.{has_second, is_sync_word, is_second_part, is_sync, parts_for, answered_parts, parts_among, has_part, forwarded, next_part}
 use Rattle.ace_portck.specs.Target.{Target}
 use Rattle.ace_portck.specs.Targets.{Recording}
 use Rattle.ace_sysck.specs.declared.messages.PortMessages.{PortMessages}
@@ -127,6 +127,14 @@ has_place parts place = list_any (λ p. p.transaction.place == place) parts
 -- the part at the place is one that the port has not answered
 abbrev pub awaits : Inboxes → ℕ → ℕ → Bool
 awaits s q place = is_some_and (slice_get s.ports.items q) (λ b. has_place b.parts.items place)
+
+-- the part at the place is one that was not forwarded to the port
+abbrev pub awaits_snoop : Inboxes → ℕ → ℕ → Bool
+awaits_snoop s q place = is_some_and (slice_get s.ports.items q) (λ b. has_place (drop b.forwarded b.parts.items) place)
+
+-- the part was forwarded to the port
+abbrev pub was_forwarded : Trace → Transaction → ℕ → Bool
+was_forwarded past x q = has_part (parts_among (forwarded past q)) x
 
 -- the part that is forwarded to the port next
 abbrev pub next_in : Option Inbox → Option Part

@@ -1,6 +1,6 @@
 //! The parts of DVM messages that are forwarded to the ports.
 
-ghost use Rattle.std.specs.Prelude.{◌≡◌, ◌<◌, ◌+◌, [], length, slice_get, IfOk};
+ghost use Rattle.std.specs.Prelude.{◌≡◌, ◌<◌, ◌+◌, [], length, drop, slice_get, IfOk};
 ghost use Rattle.std.specs.Option.{option_map, option_to_list};
 ghost use Rattle.ace_sysck.specs.declared.inboxes.Message.{Message};
 ghost use Rattle.ace_sysck.specs.Inboxes.{IsEmptyInbox, parts_sent, sent_list, Receives, forwards_in, has_place, own_transaction, next_message_in};
@@ -135,6 +135,20 @@ fn has_place(parts: &VecDeque<Part>, place: usize) -> bool
     false
 }
 
+/// One of the parts from this number on is at the place.
+fn has_place_from(parts: &VecDeque<Part>, start: usize, place: usize) -> bool
+    ensures { result ≡ has_place (drop start parts.now.items) place }
+{
+    for k in start..parts.len() {
+        if let Some(part) = parts.get(k) {
+            if part.transaction.place == place {
+                return true;
+            }
+        }
+    }
+    false
+}
+
 /// The part after this one of those that are there.
 fn part_after(parts: &VecDeque<Part>, k: usize) -> Option<Transaction>
     requires { k < length parts.now.items }
@@ -201,7 +215,7 @@ impl Inboxes {
     ghost use Rattle.ace_model.specs.Messages.{is_other_ace};
     ghost use Rattle.ace_portck.specs.Targets.{Recording, after};
     ghost use Rattle.ace_sysck.specs.declared.inboxes.Message.{Message};
-    ghost use Rattle.ace_sysck.specs.Inboxes.{InboxesStand, SendsAll, SendsOne, ForwardsTo, AnswersFirst, first_is_sync, sent_list, awaits, message_of, next_in, next_message};
+    ghost use Rattle.ace_sysck.specs.Inboxes.{InboxesStand, SendsAll, SendsOne, ForwardsTo, AnswersFirst, first_is_sync, sent_list, awaits, awaits_snoop, message_of, next_in, next_message};
 
     /// The inboxes of the empty trace under the header.
     pub fn new(alloc: Global, header: &Header) -> Result<Inboxes, AllocError>
@@ -262,6 +276,16 @@ impl Inboxes {
         match self.ports.get(port as usize) {
             None => false,
             Some(inbox) => has_place(&inbox.parts, place),
+        }
+    }
+
+    /// The part at the place is one that was not forwarded to the port.
+    pub fn awaits_snoop(&self, port: u8, place: usize) -> bool
+        ensures { result ≡ awaits_snoop self.now port place }
+    {
+        match self.ports.get(port as usize) {
+            None => false,
+            Some(inbox) => has_place_from(&inbox.parts, inbox.forwarded, place),
         }
     }
 

@@ -4,7 +4,7 @@ ghost use Rattle.std.specs.Prelude.{◌≡◌, Some};
 
 use crate::barriers::{Barrier, Barriers, OpenPair};
 use crate::inboxes::{Inboxes, Message};
-use crate::messages::{Messages, PortMessages};
+use crate::messages::{Messages, PortMessages, is_at};
 use crate::monitors::Monitors;
 use crate::registrations::Registrations;
 use crate::results::Results;
@@ -30,19 +30,20 @@ pub struct SysCheck {
 }
 
 impl SysCheck {
-    ghost use Rattle.std.specs.Prelude.{◌≡◌, [], true, Some, IfOk};
+    ghost use Rattle.std.specs.Prelude.{◌≡◌, [], ℕ, true, Some, IfOk};
     ghost use Rattle.std.specs.Option.{option_map};
     ghost use Rattle.ace_event.specs.Ports.{IsHeader};
     ghost use Rattle.ace_event.specs.declared.event.Channel.TheVariants.{Read};
     ghost use Rattle.ace_model.specs.declared.transactions.Transaction.{Transaction};
     ghost use Rattle.ace_model.specs.Exclusives.{has_failed, is_registered};
+    ghost use Rattle.ace_model.specs.Messages.{is_message_part, is_other_ace};
     ghost use Rattle.ace_model.specs.Monitors.{is_monitored};
     ghost use Rattle.ace_model.specs.ReadRules.{is_exclusive_okay};
     ghost use Rattle.ace_model.specs.Transactions.{is_ace, outstanding};
     ghost use Rattle.ace_portck.specs.Targets.{Recording, after};
     ghost use Rattle.ace_sysck.specs.Barriers.{BarrierStands, TellsOpenPair};
     ghost use Rattle.ace_sysck.specs.declared.inboxes.Message.{Message as Next};
-    ghost use Rattle.ace_sysck.specs.Inboxes.{next_message};
+    ghost use Rattle.ace_sysck.specs.Inboxes.{next_message, was_forwarded};
     ghost use Rattle.ace_sysck.specs.Messages.{PortMessagesStand};
     ghost use Rattle.ace_sysck.specs.Registrations.{RegistrationsStand};
     ghost use Rattle.ace_sysck.specs.Stands.{Stands, IsRoomy};
@@ -146,6 +147,19 @@ impl SysCheck {
             → result ≡ option_map (λ (m : Next). m.first.port) (next_message r.past port) }
     {
         self.inboxes.next_sender(port)
+    }
+
+    /// Whether the part of a DVM message, which is outstanding, was forwarded to this other ACE port
+    /// (Arm IHI 0022E, C12).
+    pub fn was_forwarded(&self, part: &Transaction, port: u8) -> bool
+        ensures { (r : Recording) (own id : ℕ) → Stands self.now r
+            → outstanding r.header r.past own Read id ≡ Some part.now
+            → is_message_part part.now ≡ true → is_other_ace r.header part.now.port port ≡ true
+            → result ≡ was_forwarded r.past part.now port }
+    {
+        let waiting = is_at(self.messages.of(part.port).first, part.place);
+        let behind = self.inboxes.awaits_snoop(port, part.place);
+        !(waiting || behind)
     }
 
     /// Whether the port's outstanding read under the identifier is an exclusive store that failed.

@@ -5,7 +5,7 @@ use Rattle.ace_clauses.specs.declared.letters.Letter.TheVariants.{A, B, C, D, E,
 
 abbrev pub k24_kept : Letter → List ℕ
 k24_kept A = codes "the M names an outstanding transaction with data"
-k24_kept B = codes "a read for which memory is written was passed a dirty line under its grant"
+k24_kept B = codes "a read for which memory is written was passed a dirty line, which memory has not got yet"
 k24_kept C = codes "the passed line is whole"
 k24_kept D = codes "the read has had no transfer"
 k24_kept E = codes "the data of the write are whole"

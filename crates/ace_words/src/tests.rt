@@ -1,5 +1,7 @@
 // How many texts there are, and some of them.
-use crate::{kept_where, push_port, read_word, rule_title, snoop_word, state_word, write_word};
+use crate::{
+    kept_where, push_port, read_word, rule_title, snoop_word, state_word, write_word, wrong_with,
+};
 use ace_clauses::{ClauseName, Letter};
 use ace_codes::{ArKind, AwKind, LineState, SnoopKind};
 use ace_writer::TextBuf;
@@ -16,15 +18,31 @@ const LETTERS: [Letter; 9] = [
     Letter::I,
 ];
 
-/// How many clauses of the rule have a sentence.
-fn sentences(rule: u8) -> usize {
+/// How many clauses of the rule have a sentence for where they are kept.
+fn kept_sentences(rule: u8) -> usize {
     LETTERS
         .iter()
-        .filter(|letter| !kept_where(ClauseName {
-            rule,
-            letter: **letter,
+        .filter(|letter| {
+            !kept_where(ClauseName {
+                rule,
+                letter: **letter,
+            })
+            .is_empty()
         })
-        .is_empty())
+        .count()
+}
+
+/// How many have one for what is wrong where they are broken.
+fn broken_sentences(rule: u8) -> usize {
+    LETTERS
+        .iter()
+        .filter(|letter| {
+            !wrong_with(ClauseName {
+                rule,
+                letter: **letter,
+            })
+            .is_empty()
+        })
         .count()
 }
 
@@ -35,7 +53,8 @@ fn each_rule_has_its_words(rt: HostRuntime) {
         1, 1, 5, 4, 3, 1, 3, 2, 1, 5, 1, 0,
     ];
     for (rule, count) in (0..42u8).zip(counts) {
-        assert_eq!(rt; sentences(rule), count);
+        assert_eq!(rt; kept_sentences(rule), count);
+        assert_eq!(rt; broken_sentences(rule), count);
         assert_eq!(rt; rule_title(rule).is_empty(), count == 0);
     }
 }
@@ -55,6 +74,9 @@ fn has_words(rt: HostRuntime) {
     };
     assert!(rt; rule_title(20) == b"the data are those of the reply".as_slice());
     assert!(rt; kept_where(twentieth).starts_with(b"a transfer has the word of the reply: "));
+    assert!(rt;
+        wrong_with(twentieth) == b"the transfer has another word than the reply".as_slice()
+    );
     assert!(rt; read_word(ArKind::DvmMessage) == b"DVM Message".as_slice());
     assert!(rt; write_word(AwKind::WriteLineUnique) == b"WriteLineUnique".as_slice());
     assert!(rt; snoop_word(SnoopKind::DvmComplete) == b"DVM Complete".as_slice());

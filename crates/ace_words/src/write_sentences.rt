@@ -10,7 +10,8 @@ pub fn k24_kept(letter: Letter) -> &'static [u8]
 {
     match letter {
         Letter::A => b"the M names an outstanding transaction with data",
-        Letter::B => b"a read for which memory is written was passed a dirty line under its grant",
+        Letter::B =>
+            b"a read for which memory is written was passed a dirty line, which memory has not got yet",
         Letter::C => b"the passed line is whole",
         Letter::D => b"the read has had no transfer",
         Letter::E => b"the data of the write are whole",

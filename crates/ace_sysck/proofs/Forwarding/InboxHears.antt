@@ -15,7 +15,7 @@ use Rattle.ace_model.proofs.General.Options.{Some-injective, some_is}
 use Rattle.ace_model.proofs.General.Lists.{start-length, slice_get-more}
 use Rattle.ace_sysck.proofs.EventLaws.{begun-is}
 use Rattle.ace_sysck.proofs.PartLaws.{Forwards, forwards-at, forwards-kind, forwarded-length}
-use Rattle.ace_sysck.proofs.Forwarding.InboxRules.{unanswered, inbox_at}
+use Rattle.ace_sysck.proofs.Forwarding.InboxRules.{unanswered, inbox_at, drop-map}
 use Rattle.ace_sysck.proofs.Forwarding.InboxMoves.{map-old, sent-is, few-unanswered}
 
 -- the parts that are not answered are not known otherwise after one more event
@@ -180,11 +180,6 @@ module _ (h : Header) (past : Trace) (q resp : ℕ) (st : LineState) (accepted :
   parts-same : map (part_of (cr ∷ past)) (drop (length (answered_parts (cr ∷ past) q)) (parts_for (cr ∷ past) q)) ≡ map (part_of (cr ∷ past)) (drop (length (answered_parts (cr ∷ past) q)) (parts_for past q))
   parts-same = ap (λ l. map (part_of (cr ∷ past)) (drop (length (answered_parts (cr ∷ past) q)) l)) (append-nil (parts_for past q))
 
-  drop-map : (n : ℕ) (xs : List Transaction) → drop n (map (part_of past) xs) ≡ map (part_of past) (drop n xs)
-  drop-map zero xs = refl
-  drop-map (suc n) [] = refl
-  drop-map (suc n) (x ∷ xs) = drop-map n xs
-
   pub inbox_answers : (t : Target) (parts : List Part) (count : ℕ) → t ≡ target_of h past cr → answers_message t ≡ true → InboxStands past q parts count
       → InboxStands (cr ∷ past) q (drop 1 parts) (count - 1)
   inbox_answers t parts count own message s =
@@ -194,7 +189,7 @@ module _ (h : Header) (past : Trace) (q resp : ℕ) (st : LineState) (accepted :
       let was = s.count_is in
       let inside : length (answered_parts (cr ∷ past) q) ≤ length (parts_among (forwarded past q)) = among-take (forwarded past q) (answers (cr ∷ past) q) in
       record {
-        parts_are = ap (drop 1) s.parts_are ∙ drop-map 1 (unanswered past q)
+        parts_are = ap (drop 1) s.parts_are ∙ drop-map past 1 (unanswered past q)
             ∙ ap (map (part_of past)) (drop-drop 1 (length (answered_parts past q)) (parts_for past q))
             ∙ sym (map-old cr past (drop (length (answered_parts past q) + 1) (parts_for past q)) (All-drop (IsBelow (length past)) (length (answered_parts past q) + 1) (parts_for past q) (parts-placed past q)))
             ∙ ap (λ n. map (part_of (cr ∷ past)) (drop n (parts_for past q))) (sym more_by) ∙ sym parts-same;

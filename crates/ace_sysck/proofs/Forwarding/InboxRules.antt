@@ -1,5 +1,5 @@
 -- What the rules on the parts of messages say where the inboxes stand.
-use Rattle.std.proofs.Common.{◌≡◌, ◌≢◌, ◌⊎◌, ℕ, zero, suc, ◌+◌, ◌<◌, Bool, true, false, not, ◌&&◌, ◌||◌, nat_eq, nat_lt, List, [], ◌∷◌, ◌++◌, length, map, take, drop, slice_get, get_or, Option, Some, None, refl, sym, ap, subst, ◌∙◌, arith, inl, inr, length-append}
+use Rattle.std.proofs.Common.{◌≡◌, ◌≢◌, ◌⊎◌, ℕ, zero, suc, ◌+◌, ◌<◌, Bool, true, false, not, ◌&&◌, ◌||◌, nat_eq, nat_lt, List, [], ◌∷◌, ◌++◌, length, map, drop, slice_get, get_or, Option, Some, None, refl, sym, ap, subst, ◌∙◌, arith, inl, inr, length-append}
 use Rattle.ace_sysck.proofs.Terms.{AllPairs, option_map, SnoopKind, Transaction, Ac, Trace, implies, is_some_and, is_none_or, is_ace, is_message_part, is_message_snoop, ac_kind_of, first_waiting, parts_for, parts_among, forwarded, answered_parts, has_answered, has_part, list_all, ports_below, is_other_ace, is_answered_by_all, k36, next_part, is_second_part, forwards_next, Target, Recording, Inbox, Inboxes, is_at, InboxStands, InboxesStand, MayAskInboxes, part_of, own_transaction, message_with, next_message_in, next_message, next_in, forwards_in, awaits, has_place}
 use Rattle.std.proofs.lemmas.Bool.{cases_Bool, and_parts, eqb-true, eq-eqb, ne_eqb, ltb-true, or_left}
 use Rattle.std.proofs.lemmas.List.{take-append-drop, get_or_append_left, get_or-append-add, get_or_default}
@@ -8,7 +8,7 @@ use Rattle.std.proofs.lemmas.List.Folds.{list_any-append, list_any_none}
 use Rattle.ace_model.proofs.Dvm.Parts.{parts-cases}
 use Rattle.ace_model.proofs.Dvm.Forwarding.{answered-first}
 use Rattle.ace_model.proofs.Trace.Growth.{IsIssued}
-use Rattle.ace_model.proofs.General.Lists.{start-is, slice_get-drop}
+use Rattle.ace_model.proofs.General.Lists.{IsStart, start-is, slice_get-drop}
 use Rattle.ace_sysck.proofs.PartLaws.{parts-apart, waiting-apart, AreOthers}
 
 -- a port of the header has an inbox
@@ -70,39 +70,45 @@ apart_parts xs ys x apart has =
     apart a.0 (length xs + k) d (omega (arith, low_a)) (omega (arith, low, long))
     (ap (λ (z : Transaction). z.place) first ∙ a.2 ∙ sym e ∙ ap (λ (z : Transaction). z.place) (sym second))))
 
--- the parts that a port has answered are the first of those for it
-pub answered-take : (past : Trace) (q : ℕ) → take (length (answered_parts past q)) (parts_for past q) ≡ answered_parts past q
-answered-take past q = start-is (answered_parts past q) (parts_for past q) (answered-first past q)
+-- the parts for a port behind the first of them
+abbrev pub behind : List Transaction → Trace → ℕ → List Transaction
+behind first past q = drop (length first) (parts_for past q)
 
 abbrev pub unanswered : Trace → ℕ → List Transaction
-unanswered past q = drop (length (answered_parts past q)) (parts_for past q)
+unanswered past q = behind (answered_parts past q) past q
 
-pub both-parts : (past : Trace) (q : ℕ) → answered_parts past q ++ unanswered past q ≡ parts_for past q
-both-parts past q =
-    ap (λ l. l ++ unanswered past q) (sym (answered-take past q)) ∙ take-append-drop (length (answered_parts past q)) (parts_for past q)
+both-parts : (past : Trace) (q : ℕ) (first : List Transaction) → IsStart first (parts_for past q) → first ++ behind first past q ≡ parts_for past q
+both-parts past q first start =
+    ap (λ l. l ++ behind first past q) (sym (start-is first (parts_for past q) start)) ∙ take-append-drop (length first) (parts_for past q)
 
-both-apart : (past : Trace) (q : ℕ) → AllPairs (λ (y : Transaction) (z : Transaction). y.place ≢ z.place) (answered_parts past q ++ unanswered past q)
-both-apart past q = subst (λ l. AllPairs (λ (y : Transaction) (z : Transaction). y.place ≢ z.place) l) (sym (both-parts past q)) (parts-apart past q)
+both-apart : (past : Trace) (q : ℕ) (first : List Transaction) → IsStart first (parts_for past q)
+    → AllPairs (λ (y : Transaction) (z : Transaction). y.place ≢ z.place) (first ++ behind first past q)
+both-apart past q first start =
+    subst (λ l. AllPairs (λ (y : Transaction) (z : Transaction). y.place ≢ z.place) l) (sym (both-parts past q first start)) (parts-apart past q)
 
-has-both : (past : Trace) (q : ℕ) (x : Transaction) → has_part (parts_for past q) x ≡ (has_answered past x q || has_part (unanswered past q) x)
-has-both past q x = ap (λ l. has_part l x) (sym (both-parts past q)) ∙ list_any-append (λ y. nat_eq y.place x.place) (answered_parts past q) (unanswered past q)
+has-both : (past : Trace) (q : ℕ) (first : List Transaction) (x : Transaction) → IsStart first (parts_for past q)
+    → has_part (parts_for past q) x ≡ (has_part first x || has_part (behind first past q) x)
+has-both past q first x start =
+    ap (λ l. has_part l x) (sym (both-parts past q first start)) ∙ list_any-append (λ y. nat_eq y.place x.place) first (behind first past q)
 
 -- a part that waits to be answered has not been
 pub not_answered : (past : Trace) (q : ℕ) (x : Transaction) → has_part (unanswered past q) x ≡ true → has_answered past x q ≡ false
 not_answered past q x waits =
     elim (cases_Bool (has_answered past x q)) [
-      | inl t ↦ let bad : false ≡ true = sym (apart_parts (answered_parts past q) (unanswered past q) x (both-apart past q) t) ∙ waits in cc
+      | inl t ↦
+          let apart = both-apart past q (answered_parts past q) (answered-first past q) in
+          let bad : false ≡ true = sym (apart_parts (answered_parts past q) (unanswered past q) x apart t) ∙ waits in cc
       | inr f ↦ f
     ]
 
--- a part of another port was answered, unless it waits for its second, or waits to be answered
-pub answered-is : (past : Trace) (x : Transaction) (q : ℕ) → IsIssued past x → is_message_part x ≡ true → x.port ≢ q
-    → has_answered past x q ≡ not (is_at (first_waiting past x.port) x.place || has_part (unanswered past q) x)
-answered-is past x q i part other =
+-- a part of another port is among the first, unless it waits for its second, or is behind them
+pub among-is : (past : Trace) (x : Transaction) (q : ℕ) (first : List Transaction) → IsStart first (parts_for past q) → IsIssued past x → is_message_part x ≡ true → x.port ≢ q
+    → has_part first x ≡ not (is_at (first_waiting past x.port) x.place || has_part (behind first past q) x)
+among-is past x q first start i part other =
     elim (parts-cases x q part other past i) [
-      | inl has ↦ rw (unwaited has (first_waiting past x.port) refl) (one (has_answered past x q) (has_part (unanswered past q) x) (sym (has-both past q x) ∙ has)
-          (λ t. apart_parts (answered_parts past q) (unanswered past q) x (both-apart past q) t))
-      | inr waits ↦ rw (waits, eq-eqb x.place x.place refl) (none waits (cases_Bool (has_answered past x q)))
+      | inl has ↦ rw (unwaited has (first_waiting past x.port) refl) (one (has_part first x) (has_part (behind first past q) x) (sym (has-both past q first x start) ∙ has)
+          (λ t. apart_parts first (behind first past q) x (both-apart past q first start) t))
+      | inr waits ↦ rw (waits, eq-eqb x.place x.place refl) (none waits (cases_Bool (has_part first x)))
     ]
   where
     unwaited : has_part (parts_for past q) x ≡ true → (o : Option Transaction) → first_waiting past x.port ≡ o → is_at o x.place ≡ false
@@ -115,16 +121,27 @@ answered-is past x q i part other =
     one true d some apart = rw (apart refl) refl
     one false d some apart = let t : d ≡ true = some in rw t refl
 
-    none : first_waiting past x.port ≡ Some x → (has_answered past x q ≡ true) ⊎ (has_answered past x q ≡ false) → has_answered past x q ≡ false
+    none : first_waiting past x.port ≡ Some x → (has_part first x ≡ true) ⊎ (has_part first x ≡ false) → has_part first x ≡ false
     none waits (inl t) =
         let bad : false ≡ true =
-        sym (without-part (parts_for past q) x x (waiting-apart past x.port q x waits) refl) ∙ has-both past q x ∙ or_left (has_answered past x q) _ t in cc
+        sym (without-part (parts_for past q) x x (waiting-apart past x.port q x waits) refl) ∙ has-both past q first x start ∙ or_left (has_part first x) _ t in cc
     none waits (inr f) = f
 
+-- a part of another port was answered, unless it waits for its second, or waits to be answered
+answered-is : (past : Trace) (x : Transaction) (q : ℕ) → IsIssued past x → is_message_part x ≡ true → x.port ≢ q
+    → has_answered past x q ≡ not (is_at (first_waiting past x.port) x.place || has_part (unanswered past q) x)
+answered-is past x q i part other = among-is past x q (answered_parts past q) (answered-first past q) i part other
+
 -- a part at the place is among those of the inbox
-place-in : (past : Trace) (ys : List Transaction) (x : Transaction) → has_place (map (part_of past) ys) x.place ≡ has_part ys x
+pub place-in : (past : Trace) (ys : List Transaction) (x : Transaction) → has_place (map (part_of past) ys) x.place ≡ has_part ys x
 place-in past [] x = refl
 place-in past (y ∷ ys) x = ap (λ b. nat_eq y.place x.place || b) (place-in past ys x)
+
+-- the parts of the transactions without the first are those of the parts without them
+pub drop-map : (past : Trace) (n : ℕ) (xs : List Transaction) → drop n (map (part_of past) xs) ≡ map (part_of past) (drop n xs)
+drop-map past zero xs = refl
+drop-map past (suc n) [] = refl
+drop-map past (suc n) (x ∷ xs) = drop-map past n xs
 
 pub awaits-is : (r : Recording) (s : Inboxes) (q : ℕ) (x : Transaction) → InboxesStand r s → is_ace r.header q ≡ true → awaits s q x.place ≡ has_part (unanswered r.past q) x
 awaits-is r s q x stands ace =

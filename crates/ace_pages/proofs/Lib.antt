@@ -1,0 +1,4 @@
+pub mod Lengths
+pub mod OtherWords
+pub mod Steps
+pub mod Telling
