@@ -1,7 +1,8 @@
 -- The clause of a rule by its number.
-use Rattle.std.proofs.Common.{◌≡◌, ℕ, Some, sym, subst}
+use Rattle.std.proofs.Common.{◌≡◌, ℕ, ◌<◌, true, false, ◌==◌, nat_le, List, [], ◌∷◌, refl, sym, subst, arith}
+use Rattle.std.specs.List.{list_all}
+use Rattle.std.proofs.lemmas.Bool.{and_parts, leb-true, ne_eqb}
 use Rattle.ace_event.specs.declared.event.Event.{Event}
-use Rattle.ace_model.specs.Accepted.{least_broken}
 use Rattle.ace_model.specs.AddressRules.{k4, k5, k6, k8}
 use Rattle.ace_model.specs.SnoopRules.{k14}
 use Rattle.ace_model.specs.ReadRules.{k22}
@@ -9,17 +10,16 @@ use Rattle.ace_model.specs.WriteRules.{k27}
 use Rattle.ace_model.specs.CacheRules.{k30, k31}
 use Rattle.ace_model.specs.OrderRules.{k35, k38, k40}
 use Rattle.ace_portck.specs.Targets.{Recording}
-use Rattle.ace_clauses.specs.Clauses.{clause_of}
+use Rattle.ace_clauses.specs.Clauses.{RuleClauses, clauses, clauses_among, clauses_of}
 use Rattle.ace_clauses.specs.declared.letters.Letter.{Letter}
 use Rattle.ace_clauses.specs.declared.letters.Letter.TheVariants as letter
 use Rattle.ace_explain.specs.Names.{Names}
-use Rattle.ace_explain.proofs.Broken.{has_clause, last_one}
+use Rattle.ace_explain.proofs.Broken.{has_clause, last_one, none_broken}
 
 module _ (r : Recording) (e : Event) where
   -- the rule has this number
-  pub at_rule : (k n : ℕ) (letter : Letter) → k ≡ n → Names r e n letter → least_broken r.header r.past e ≡ Some k → Some letter ≡ clause_of r.header r.past e k
-  at_rule k n letter is names least =
-      subst (λ m. Some letter ≡ clause_of r.header r.past e m) (sym is) (sym (names (subst (λ m. least_broken r.header r.past e ≡ Some m) is least)))
+  pub at_rule : (k n : ℕ) (letter : Letter) → k ≡ n → Names r e n letter → Names r e k letter
+  at_rule k n letter is names = subst (λ m. Names r e m letter) (sym is) names
 
   -- rules of one clause
   pub sole_4 : Names r e 4 letter.A
@@ -57,3 +57,23 @@ module _ (r : Recording) (e : Event) where
 
   pub sole_40 : Names r e 40 letter.A
   sole_40 least = last_one (k40 r.header r.past e) letter.A (has_clause r.header r.past e 40 least)
+
+  -- no rule has another number
+  pub no_rule : (k : ℕ) → clauses_of k ≡ [] → Names r e k letter.A
+  no_rule k none least = none_broken (rw none at (has_clause r.header r.past e k least))
+
+-- there are forty rules
+none_among : (rs : List RuleClauses) (n k : ℕ) → n < k → list_all (λ c. nat_le c.number n) rs ≡ true → clauses_among rs k ≡ []
+none_among [] n k high t = refl
+none_among (c ∷ rs) n k high t =
+    let parts = and_parts (nat_le c.number n) (list_all (λ d. nat_le d.number n) rs) t in
+    let low = leb-true c.number n parts.0 in
+    let other : (c.number == k) ≡ false = ne_eqb c.number k (λ same. omega (arith, high, low, same)) in
+    rw other (none_among rs n k high parts.1)
+
+pub none_beyond : (k : ℕ) → 40 < k → clauses_of k ≡ []
+none_beyond k high = none_among clauses 40 k high refl
+
+-- the first is K1
+pub none_before : (k : ℕ) → k ≡ 0 → clauses_of k ≡ []
+none_before k zero = subst (λ n. clauses_of n ≡ []) (sym zero) refl

@@ -1,2 +1,3 @@
+pub mod LastLoads
 pub mod Names
 pub mod Answers

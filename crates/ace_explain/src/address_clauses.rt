@@ -151,7 +151,7 @@ fn clause_of_half(system: &SysCheck, half: &Transaction) -> Letter
 }
 
 /// A part of a DVM message.
-fn is_message_part(x: &Transaction) -> bool
+pub(crate) fn is_message_part(x: &Transaction) -> bool
     ensures { result ≡ is_message_part x.now }
 {
     matches!(read_kind(x), Some(ArKind::DvmMessage))
