@@ -1,0 +1,41 @@
+-- What the checker's answers to an event say.
+use Rattle.std.proofs.Common.{◌≡◌, ℕ, true, ◌∷◌, None, Some, sym, subst}
+use Rattle.ace_check.specs.Promises.{goes_over_within}
+use Rattle.ace_check.specs.Run.{IsAnswerWithin, StandsWithin}
+use Rattle.ace_check.specs.declared.checker.Step.TheVariants.{Fine, Broken}
+use Rattle.ace_event.specs.declared.event.Event.{Event}
+use Rattle.ace_event.specs.declared.header.Header.{Header}
+use Rattle.ace_explain.specs.LastLoads.{LoadsStand}
+use Rattle.ace_explanation.specs.Explanations.{verdict_of}
+use Rattle.ace_explanation.specs.Following.{BreaksAt, HasHeard}
+use Rattle.ace_explanation.specs.declared.explanation.Explanation.{Explanation}
+use Rattle.ace_explanation.specs.declared.listener.Listener.{Listener}
+use Rattle.ace_explanation.specs.declared.explanation.Explanation.TheVariants.{Other}
+use Rattle.ace_model.specs.Accepted.{least_broken}
+use Rattle.ace_model.specs.Trace.{Trace}
+use Rattle.ace_verdict.specs.Progress.{IsStop, StopsAt}
+use Rattle.ace_verdict.specs.declared.verdict.Verdict.TheVariants as verdict
+
+pub fine_heard : (lines : ℕ) (new : Listener) (h : Header) (past : Trace) (e : Event) → IsAnswerWithin lines h past e Fine
+    → StandsWithin lines new.checker h (e ∷ past) None → LoadsStand (e ∷ past) new.loads → HasHeard lines new h past e None
+fine_heard lines new h past e a s l = record { fine = a; stands = (s, l); stops = tt; breaks = tt }
+
+pub broken_heard : (lines : ℕ) (new : Listener) (h : Header) (past : Trace) (e : Event) (x : Explanation) (index rule : ℕ)
+    → verdict_of x ≡ verdict.Refused index rule → IsAnswerWithin lines h past e (Broken index rule) → BreaksAt h past e x
+    → HasHeard lines new h past e (Some x)
+broken_heard lines new h past e x index rule is a b =
+    record { fine = tt; stands = tt; stops = subst (StopsAt lines h past e) (sym is) a; breaks = b }
+
+pub no_memory_heard : (lines : ℕ) (new : Listener) (h : Header) (past : Trace) (e : Event)
+    → HasHeard lines new h past e (Some (Other verdict.NoMemory))
+no_memory_heard lines new h past e = record { fine = tt; stands = tt; stops = tt; breaks = tt }
+
+pub over_heard : (lines : ℕ) (new : Listener) (h : Header) (past : Trace) (e : Event)
+    → (least_broken h past e ≡ None) × (goes_over_within lines past e ≡ true)
+    → HasHeard lines new h past e (Some (Other verdict.LimitLines))
+over_heard lines new h past e over = record { fine = tt; stands = tt; stops = over; breaks = tt }
+
+pub refused_stop : (x : Explanation) (index rule : ℕ) → verdict_of x ≡ verdict.Refused index rule → IsStop (verdict_of x)
+refused_stop x index rule is = subst IsStop (sym is) tt
+
+pub ruleset hearing = (fine_heard, broken_heard, no_memory_heard, over_heard, refused_stop)

@@ -1,0 +1,5 @@
+pub mod Ends
+pub mod Hearing
+pub mod HeaderLines
+pub mod Lines
+pub mod Telling

@@ -1,0 +1,57 @@
+-- What is told of an event that breaks a rule.
+use Rattle.std.specs.Prelude.{ℕ, ◌+◌, ◌++◌, ◌<◌, ◌^◌, Bool, if◌then◌else◌, List, [], Some, None, codes, decimal}
+use Rattle.ace_clauses.specs.declared.letters.Letter.{Letter}
+use Rattle.ace_event.specs.Ports.{IsHeader}
+use Rattle.ace_event.specs.Range.{InRange}
+use Rattle.ace_event.specs.Text.{event_text, line_text}
+use Rattle.ace_explanation.specs.declared.refusal.Refusal.{Refusal}
+use Rattle.ace_pages.specs.Pages.{page_name}
+use Rattle.ace_words.specs.Breaks.{wrong_with}
+use Rattle.ace_words.specs.Rules.{kept_where, rule_title}
+
+-- The event has a line in a trace with its header, and that line a number.
+pub record HasLine (r : Refusal) : Type 0 where
+  pub header : IsHeader r.header
+  pub event : InRange r.header.version r.event
+  pub few : r.index + 2 < 2 ^ 64
+
+-- what is wrong where the clause is broken, what the rule is called, and where the clause is kept
+unfoldable pub wrong_sentence : ℕ → Letter → List ℕ
+wrong_sentence rule letter = wrong_with rule letter
+
+unfoldable pub title : ℕ → List ℕ
+title rule = rule_title rule
+
+unfoldable pub kept_sentence : ℕ → Letter → List ℕ
+kept_sentence rule letter = kept_where rule letter
+
+-- a place in a file: its name, and the number of a line of it
+unfoldable pub place_text : List ℕ → ℕ → List ℕ
+place_text name line = name ++ codes ":" ++ decimal line
+
+-- behind a rule what is wrong by the clause of it, and behind its title where that clause is kept
+unfoldable pub wrong_part : ℕ → Letter → List ℕ
+wrong_part rule letter = codes ": " ++ wrong_sentence rule letter
+
+unfoldable pub kept_part : ℕ → Letter → List ℕ
+kept_part rule letter = codes ": " ++ kept_sentence rule letter
+
+-- the first line, as a compiler tells of an error: FILE:LINE, the verdict, and what is wrong. The lines of the header are 1 and 2.
+unfoldable pub refusal_line : List ℕ → Refusal → List ℕ
+refusal_line name r =
+    place_text name (r.index + 2) ++ codes ": refused event " ++ decimal r.index ++ codes ": "
+    ++ page_name r.rule None ++ wrong_part r.rule r.letter ++ codes "\n"
+
+-- what the rule asks: the name of the clause, the title of the rule, and where the clause is kept
+unfoldable pub rule_line : Refusal → List ℕ
+rule_line r =
+    codes "  " ++ page_name r.rule (Some r.letter) ++ codes "  " ++ title r.rule ++ kept_part r.rule r.letter ++ codes "\n"
+
+-- the event as it stands in the trace, and what the rule asks, each with an empty line before it
+unfoldable pub evidence : Refusal → List ℕ
+evidence r =
+    codes "\n  " ++ line_text (event_text r.header.version r.event) ++ codes "\n" ++ rule_line r
+
+-- what is told of the event in the trace of this name: the first line alone where that was asked for
+unfoldable pub refusal_text : List ℕ → Bool → Refusal → List ℕ
+refusal_text name short r = refusal_line name r ++ (if short then [] else evidence r)

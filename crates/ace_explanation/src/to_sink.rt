@@ -1,0 +1,88 @@
+// What is told of a trace.
+ghost use Rattle.std.specs.Prelude.{◌≡◌, IfOk, OnErr};
+ghost use Rattle.ace_io.specs.Faults.{HasCause};
+ghost use Rattle.ace_explanation.specs.Explanations.{HasAnyLine};
+ghost use Rattle.ace_explanation.specs.Refusals.{HasLine};
+ghost use Rattle.ace_explanation.specs.Told.{HasTold, HasToldPart};
+ghost use Rattle.ace_explanation.specs.declared.explanation.Explanation.TheVariants.{Refused, Other};
+
+use crate::explanation::Explanation;
+use crate::refusal::Refusal;
+use crate::refusal_text::refusal_text;
+use crate::verdict_text::give_verdict;
+use ace_call::give_text;
+use ace_io::{Failed, NoMemory, Sink};
+use ace_verdict::Verdict;
+use std::alloc::Global;
+
+/// Tells the verdict, which says all.
+#[tactic(auto, using(crate::proofs::Telling::telling))]
+fn tell_verdict<K: Sink>(
+    out: &mut K,
+    name: &str,
+    short: bool,
+    verdict: Verdict,
+) -> Result<Verdict, Failed>
+    ensures whole { IfOk result (HasTold name.now short (Other verdict) (K.held out.old)
+        (K.held out.new)) }
+    ensures part { OnErr result (HasToldPart name.now short (Other verdict) (K.held out.old)
+        (K.held out.new)) }
+    ensures cause { HasCause (K.faults out.old) (K.faults out.new) result }
+{
+    match give_verdict(out, name, verdict) {
+        Ok(()) => Ok(verdict),
+        Err(failed) => Err(failed),
+    }
+}
+
+/// Tells of the event that breaks a rule.
+#[tactic(auto, using(crate::proofs::Telling::telling))]
+fn tell_refusal<K: Sink>(
+    alloc: Global,
+    out: &mut K,
+    name: &str,
+    short: bool,
+    refusal: Refusal,
+) -> Result<Verdict, Failed>
+    requires { HasLine refusal }
+    ensures whole { IfOk result (HasTold name.now short (Refused refusal) (K.held out.old)
+        (K.held out.new)) }
+    ensures part { OnErr result (HasToldPart name.now short (Refused refusal) (K.held out.old)
+        (K.held out.new)) }
+    ensures cause { HasCause (K.faults out.old) (K.faults out.new) result }
+{
+    match refusal_text(alloc, name.as_bytes(), short, &refusal) {
+        Ok(text) => match give_text(out, text.as_slice()) {
+            Ok(()) => Ok(Explanation::Refused { refusal }.verdict()),
+            Err(failed) => Err(failed),
+        },
+        Err(NoMemory) => tell_verdict(out, name, short, Verdict::NoMemory),
+    }
+}
+
+/// Tells the explanation of the trace of this name, or that there was no memory for that, and says
+/// which verdict was told.
+///
+/// # Errors
+///
+/// `Failed` where the sink failed: a front of the text was given.
+#[tactic(auto, using(crate::proofs::Telling::telling))]
+pub fn tell<K: Sink>(
+    alloc: Global,
+    out: &mut K,
+    name: &str,
+    short: bool,
+    explanation: Explanation,
+) -> Result<Verdict, Failed>
+    requires { HasAnyLine explanation }
+    ensures whole { IfOk result (HasTold name.now short explanation (K.held out.old)
+        (K.held out.new)) }
+    ensures part { OnErr result (HasToldPart name.now short explanation (K.held out.old)
+        (K.held out.new)) }
+    ensures cause { HasCause (K.faults out.old) (K.faults out.new) result }
+{
+    match explanation {
+        Explanation::Refused { refusal } => tell_refusal(alloc, out, name, short, refusal),
+        Explanation::Other { verdict } => tell_verdict(out, name, short, verdict),
+    }
+}
