@@ -1,4 +1,4 @@
-/* What stands before `main` in the program that tools/release links with musl; no proof covers it.
+/* What stands before `main` in a program that tools/release links with musl, whose name is PROGRAM; no proof covers it.
  *
  * It ends the program with a message and status 126 where the processor is older than x86-64-v2, for which the kit compiles. And it calls
  * the initialisers again, with the words of the command line. The kit's C has one, which keeps them; musl has called it before with none,
@@ -45,7 +45,7 @@ static int is_new_enough(void) {
 }
 
 int __wrap_main(int count, char **words, char **environment) {
-    static const char refusal[] = "ace: this processor is too old: ace needs x86-64-v2 (SSE4.2, POPCNT and what is before them)\n";
+    static const char refusal[] = PROGRAM ": this processor is too old: " PROGRAM " needs x86-64-v2 (SSE4.2, POPCNT and what is before them)\n";
     if (!is_new_enough()) {
         write(2, refusal, sizeof refusal - 1);
         _exit(126);

@@ -1,6 +1,12 @@
 pub mod Checking
+pub mod Concluding
+pub mod ExplainWords
+pub mod FoundBytes
 pub mod Lines
+pub mod Notes
+pub mod OneAsked
 pub mod Peeking
 pub mod Reading
+pub mod SideLines
 pub mod Sound
 pub mod Words

@@ -4,7 +4,8 @@ use Rattle.std.proofs.lemmas.Bool.{cases_lt}
 use Rattle.std.proofs.lemmas.List.{take-append-le}
 use Rattle.std.specs.Io.KnownBytes.{Consumes, IsAtEnd}
 use Rattle.ace_io.specs.Line.{in_front}
-use Rattle.ace_verdict.specs.Verdict.{IsVerdict}
+use Rattle.ace_verdict.specs.Verdict.{IsVerdictWithin}
+use Rattle.ace_verdict.specs.declared.limits.Limits.{Limits}
 use Rattle.ace_verdict.specs.declared.verdict.Verdict.{Verdict}
 use Rattle.ace_verdict.specs.declared.verdict.Verdict.TheVariants.{ReadFault}
 use Rattle.ace_tool.specs.Checked.{IsRead}
@@ -30,23 +31,23 @@ reads_packing None new front packing taken whole is = tt
 reads_packing (Some bytes) None front packing taken whole is = absurd taken
 reads_packing (Some bytes) (Some rest) front packing taken whole is = ap packing_of taken ∙ same_packing front rest whole ∙ sym is
 
-pub reads_compressed : (old new : Option (List ℕ)) (front : List ℕ) (packing : Packing) → Consumes old new front
-    → (length front < 4 → IsAtEnd new) → Some packing ≡ packing_of front → IfSome old (λ bytes. IsRead bytes (Compressed packing))
-reads_compressed None new front packing taken whole is = tt
-reads_compressed (Some bytes) new front packing taken whole is = reads_packing (Some bytes) new front (Some packing) taken whole is
+pub reads_compressed : (limits : Limits) (old new : Option (List ℕ)) (front : List ℕ) (packing : Packing) → Consumes old new front
+    → (length front < 4 → IsAtEnd new) → Some packing ≡ packing_of front → IfSome old (λ bytes. IsRead limits bytes (Compressed packing))
+reads_compressed limits None new front packing taken whole is = tt
+reads_compressed limits (Some bytes) new front packing taken whole is = reads_packing (Some bytes) new front (Some packing) taken whole is
 
 -- the verdict is that on all of the bytes
-pub reads_verdict : (old new : Option (List ℕ)) (front : List ℕ) (verdict : Verdict) → Consumes old new front
-    → (length front < 4 → IsAtEnd new) → None ≡ packing_of front → IfSome (in_front front new) (λ bytes. IsVerdict bytes verdict)
-    → IfSome old (λ bytes. IsRead bytes (Told verdict))
-reads_verdict None new front verdict taken whole is told = tt
-reads_verdict (Some bytes) None front verdict taken whole is told = absurd taken
-reads_verdict (Some bytes) (Some rest) front verdict taken whole is told =
-    (subst (λ b. IsVerdict b verdict) (sym taken) told, λ due. reads_packing (Some bytes) (Some rest) front None taken whole is)
+pub reads_verdict : (limits : Limits) (old new : Option (List ℕ)) (front : List ℕ) (verdict : Verdict) → Consumes old new front
+    → (length front < 4 → IsAtEnd new) → None ≡ packing_of front → IfSome (in_front front new) (λ bytes. IsVerdictWithin limits bytes verdict)
+    → IfSome old (λ bytes. IsRead limits bytes (Told verdict))
+reads_verdict limits None new front verdict taken whole is told = tt
+reads_verdict limits (Some bytes) None front verdict taken whole is told = absurd taken
+reads_verdict limits (Some bytes) (Some rest) front verdict taken whole is told =
+    (subst (λ b. IsVerdictWithin limits b verdict) (sym taken) told, λ due. reads_packing (Some bytes) (Some rest) front None taken whole is)
 
 -- nothing more is known where the source failed
-pub reads_fault : (old : Option (List ℕ)) → IfSome old (λ bytes. IsRead bytes (Told ReadFault))
-reads_fault None = tt
-reads_fault (Some bytes) = (tt, λ due. absurd due)
+pub reads_fault : (limits : Limits) (old : Option (List ℕ)) → IfSome old (λ bytes. IsRead limits bytes (Told ReadFault))
+reads_fault limits None = tt
+reads_fault limits (Some bytes) = (tt, λ due. absurd due)
 
 pub ruleset reading = (reads_compressed, reads_verdict, reads_fault)

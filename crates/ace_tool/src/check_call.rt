@@ -2,6 +2,7 @@
 ghost use Rattle.std.specs.Prelude.{◌≡◌, map, IfOk};
 ghost use Rattle.ace_tool.specs.Asked.{some_traces};
 
+use crate::check_options::CheckOptions;
 use ace_io::NoMemory;
 
 /// What `check` is asked to do.
@@ -9,6 +10,8 @@ use ace_io::NoMemory;
 pub struct CheckCall<'a> {
     /// The names of the traces, in their order; `-` is standard input.
     pub traces: Vec<&'a str>,
+    /// How they are to be checked.
+    pub options: CheckOptions<'a>,
 }
 
 /// The names of the traces: where none is named, standard input is read.

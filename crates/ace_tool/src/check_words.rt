@@ -1,9 +1,11 @@
 // The words behind `check`, taken one after another.
-ghost use Rattle.std.specs.Prelude.{◌≡◌, Some, map, string_bytes, IfOk};
-ghost use Rattle.ace_tool.specs.Asked.{IsChecked, has_hyphen, is_input, nothing, with_all, with_more, with_trace};
-ghost use Rattle.ace_tool.specs.Told.{check_of, if_right};
+ghost use Rattle.std.specs.Prelude.{◌≡◌, ◌≤◌, Some, None, true, length, map, string_bytes, IfOk, IfSome, MatchOption};
+ghost use Rattle.ace_tool.specs.Asked.{AreOptions, CheckAsked, IsChecked, has_hyphen, is_input, may_have, nothing, with_all, with_more, with_option, with_trace, with_value_of, with_valued, with_word};
+ghost use Rattle.ace_tool.specs.Told.{check_of, if_right, options_of, side_of};
 
 use crate::check_call::{CheckCall, some_traces};
+use crate::check_options::CheckOptions;
+use crate::options::{GivenOptions, Valued, flag_of, valued_of};
 use ace_io::NoMemory;
 use std::alloc::Global;
 use std::marker::Model;
@@ -14,6 +16,8 @@ pub(crate) struct CheckWords<'a> {
     traces: Vec<&'a str>,
     has_input: bool,
     names_only: bool,
+    waiting: Option<Valued>,
+    given: GivenOptions<'a>,
 }
 
 impl<'a> Model for CheckWords<'a> {
@@ -26,6 +30,8 @@ impl<'a> Model for CheckWords<'a> {
       traces = map (λ name. name.now) w.traces.items;
       has_input = w.has_input;
       names_only = w.names_only;
+      waiting = w.waiting;
+      given = w.given;
     } };
 }
 
@@ -37,7 +43,7 @@ pub(crate) fn is_input(word: &str) -> bool
 }
 
 /// Whether the word begins with `-`.
-fn has_hyphen(word: &str) -> bool
+pub(crate) fn has_hyphen(word: &str) -> bool
     ensures { result ≡ has_hyphen word.now }
 {
     match word.as_bytes().first() {
@@ -55,6 +61,8 @@ impl<'a> CheckWords<'a> {
             traces: Vec::new(alloc),
             has_input: false,
             names_only: false,
+            waiting: None,
+            given: GivenOptions::none(),
         }
     }
 
@@ -74,9 +82,45 @@ impl<'a> CheckWords<'a> {
         Ok(true)
     }
 
-    /// Takes the next word, and says whether it is right there.
-    fn take(&mut self, word: &'a str) -> Result<bool, NoMemory>
-        ensures { IfOk result (λ right. with_more word.entry.now self.old
+    /// Takes the value of an option, and says whether it is right there.
+    fn take_value(&mut self, option: Option<Valued>, value: &'a str) -> bool
+        ensures { with_value_of option value.entry.now self.old ≡ if_right result self.new }
+    {
+        match option {
+            Some(option) => self.given.add_value(option, value),
+            None => false,
+        }
+    }
+
+    /// Takes an option that has a value, and says whether it is right there.
+    fn take_valued(&mut self, word: &'a str) -> bool
+        ensures { with_valued word.entry.now self.old ≡ if_right result self.new }
+    {
+        match word.split_once('=') {
+            Some((name, value)) => self.take_value(valued_of(name), value),
+            None => {
+                self.waiting = valued_of(word);
+                self.waiting.is_some()
+            }
+        }
+    }
+
+    /// Takes an option, and says whether it is right there.
+    fn take_option(&mut self, word: &'a str) -> bool
+        ensures { with_option word.entry.now self.old ≡ if_right result self.new }
+    {
+        match flag_of(word) {
+            Some(flag) => {
+                self.given.add_flag(flag);
+                true
+            }
+            None => self.take_valued(word),
+        }
+    }
+
+    /// Takes the next word, which is no value, and says whether it is right there.
+    fn take_word(&mut self, word: &'a str) -> Result<bool, NoMemory>
+        ensures { IfOk result (λ right. with_word word.entry.now self.old
             ≡ if_right right self.new) }
     {
         if self.names_only {
@@ -85,9 +129,23 @@ impl<'a> CheckWords<'a> {
             self.names_only = true;
             Ok(true)
         } else if has_hyphen(word) && !is_input(word) {
-            Ok(false)
+            Ok(self.take_option(word))
         } else {
             self.take_trace(word)
+        }
+    }
+
+    /// Takes the next word, and says whether it is right there.
+    fn take(&mut self, word: &'a str) -> Result<bool, NoMemory>
+        ensures { IfOk result (λ right. with_more word.entry.now self.old
+            ≡ if_right right self.new) }
+    {
+        match self.waiting {
+            Some(option) => {
+                self.waiting = None;
+                Ok(self.take_value(Some(option), word))
+            }
+            None => self.take_word(word),
         }
     }
 
@@ -109,13 +167,33 @@ impl<'a> CheckWords<'a> {
         Ok(Some(asked))
     }
 
-    /// What the words ask `check` to do.
-    pub(crate) fn finish(self) -> Result<CheckCall<'a>, NoMemory>
-        ensures { IfOk result (λ call. IsChecked self.entry (check_of call)) }
+    /// How traces are to be checked, if the options are right.
+    fn options(&self) -> Option<CheckOptions<'a>>
+        ensures { MatchOption result ((check : CheckAsked) → ¬ IsChecked self.now check)
+            (λ o. (self.now.waiting ≡ None) × AreOptions self.now.given (options_of o)
+            × (may_have (side_of o.side) (length self.now.traces) ≡ true)) }
     {
-        match some_traces(self.traces) {
-            Ok(traces) => Ok(CheckCall { traces }),
-            Err(NoMemory) => Err(NoMemory),
+        if self.waiting.is_some() {
+            return None;
+        }
+        match self.given.options() {
+            Some(options) if options.side.may_have(self.traces.len()) => Some(options),
+            _ => None,
+        }
+    }
+
+    /// What the words ask `check` to do, if they are right.
+    pub(crate) fn finish(self) -> Result<Option<CheckCall<'a>>, NoMemory>
+        ensures { IfOk result (λ call. MatchOption call
+            ((check : CheckAsked) → ¬ IsChecked self.entry check)
+            (λ c. IsChecked self.entry (check_of c))) }
+    {
+        match self.options() {
+            Some(options) => match some_traces(self.traces) {
+                Ok(traces) => Ok(Some(CheckCall { traces, options })),
+                Err(NoMemory) => Err(NoMemory),
+            },
+            None => Ok(None),
         }
     }
 }

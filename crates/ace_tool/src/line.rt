@@ -1,83 +1,122 @@
 // The line of a trace.
-ghost use Rattle.std.specs.Prelude.{◌≡◌, ◌++◌, codes, OnOk, OnErr};
+ghost use Rattle.std.specs.Prelude.{◌≡◌, ◌++◌, [], codes, OnOk, OnErr};
 ghost use Rattle.std.specs.Io.KnownBytes.{Appends};
 ghost use Rattle.ace_io.specs.Faults.{HasCause};
 ghost use Rattle.ace_convert.specs.Output.{AppendsPart};
-ghost use Rattle.ace_tool.specs.Reports.{line_of, report_text};
-ghost use Rattle.ace_tool.specs.declared.report.Report.{Report};
+ghost use Rattle.ace_tool.specs.Reports.{line_of, name_text, report_text, shown_name, side_name};
+ghost use Rattle.ace_tool.specs.Told.{side_of};
 
+use crate::check_options::SideChoice;
 use crate::check_words::is_input;
 use crate::packing::advice_of;
 use crate::report::{Report, open_text, verdict_text};
+use crate::side_text::{fault_text, gap_text};
 use ace_call::give_pieces;
 use ace_io::{Failed, Sink};
 use arrayvec::ArrayString;
 
-/// Gives five pieces and a line feed as one text.
+/// What is said of a trace: a text that is made for it, and three that are there.
+#[derive(Drop)]
+struct Said<'a> {
+    made: ArrayString<384>,
+    front: &'a str,
+    name: &'a str,
+    back: &'a str,
+}
+
+/// Gives six pieces and a line feed as one text.
 #[tactic(auto, using(crate::proofs::Lines::lines))]
-fn give_five<'a, K: Sink>(
+fn give_six<'a, K: Sink>(
     out: &mut K,
     file: &'a str,
     colon: &'a str,
+    made: &'a str,
     front: &'a str,
     name: &'a str,
     back: &'a str,
 ) -> Result<(), Failed>
     ensures whole { OnOk result (Appends (K.held out.old) (K.held out.new)
-        (file.entry.now ++ colon.entry.now ++ (front.entry.now ++ name.entry.now
-        ++ back.entry.now) ++ codes "\n")) }
+        ((file.entry.now ++ colon.entry.now) ++ (made.entry.now ++ front.entry.now
+        ++ name.entry.now ++ back.entry.now) ++ codes "\n")) }
     ensures part { OnErr result (AppendsPart (K.held out.old) (K.held out.new)
-        (file.entry.now ++ colon.entry.now ++ (front.entry.now ++ name.entry.now
-        ++ back.entry.now) ++ codes "\n")) }
+        ((file.entry.now ++ colon.entry.now) ++ (made.entry.now ++ front.entry.now
+        ++ name.entry.now ++ back.entry.now) ++ codes "\n")) }
     ensures cause { HasCause (K.faults out.old) (K.faults out.new) result }
 {
-    give_pieces(out, &[file, colon, front, name, back, "\n"])
-}
-
-/// What is said of the trace of a file, in three pieces.
-#[derive(Drop)]
-struct Said<'a> {
-    front: ArrayString<64>,
-    name: &'a str,
-    back: &'a str,
+    give_pieces(out, &[file, colon, made, front, name, back, "\n"])
 }
 
 /// What is said of the trace of the file of this name.
 fn said_of<'a>(name: &'a str, report: Report) -> Said<'a>
-    ensures { result.front.bytes ++ result.name.now ++ result.back.now
+    ensures { result.made.bytes ++ result.front.now ++ result.name.now ++ result.back.now
         ≡ report_text name.entry.now report }
 {
     match report {
         Report::Told { verdict } => Said {
-            front: verdict_text(verdict),
+            made: verdict_text(verdict),
+            front: "",
             name: "",
             back: "",
         },
         Report::Shut { error } => Said {
+            made: ArrayString::new(),
             front: open_text(error),
             name: "",
             back: "",
         },
         Report::Compressed { packing } => Said {
+            made: ArrayString::new(),
             front: advice_of(packing),
             name,
             back: " | acetool check -",
         },
+        Report::Unfinished { events, gap } => Said {
+            made: gap_text(events, gap),
+            front: "",
+            name: "",
+            back: "",
+        },
+        Report::BadSide { fault } => Said {
+            made: fault_text(fault),
+            front: "",
+            name: "",
+            back: "",
+        },
     }
 }
 
-/// What stands before a report in the line of the trace of this name, in two pieces, and the
-/// name that a report speaks of.
-fn before<'a>(name: &'a str) -> (&'a str, &'a str, &'a str)
-    ensures { (report : Report)
-        → result.0.now ++ result.1.now ++ report_text result.2.now report ++ codes "\n"
-        ≡ line_of name.entry.now report }
+/// The name of the side file of a trace, in two pieces.
+fn side_pieces<'a>(side: SideChoice<'a>, name: &'a str) -> (&'a str, &'a str)
+    ensures { result.0.now ++ result.1.now ≡ side_name (side_of side.entry) name.entry.now }
 {
-    if is_input(name) {
-        ("", "", "FILE")
-    } else {
-        (name, ": ", name)
+    match side {
+        SideChoice::Named { name } => (name, ""),
+        SideChoice::Beside | SideChoice::Nowhere => (name, ".side"),
     }
+}
+
+/// What stands before a report in the line of the trace of this name, in two pieces.
+fn name_pieces<'a>(side: SideChoice<'a>, name: &'a str, report: &Report) -> (&'a str, &'a str)
+    ensures { result.0.now ++ result.1.now
+        ≡ name_text (side_of side.entry) name.entry.now report.now }
+{
+    match report {
+        Report::BadSide { .. } => side_pieces(side, name),
+        _ => {
+            if is_input(name) {
+                ("", "")
+            } else {
+                (name, ": ")
+            }
+        }
+    }
+}
+
+/// The name that a report speaks of.
+pub(crate) fn shown_name<'a>(name: &'a str) -> &'a str
+    ensures { result.now ≡ shown_name name.entry.now }
+{
+    if is_input(name) { "FILE" } else { name }
 }
 
 /// Gives the line of the trace of this name.
@@ -85,14 +124,27 @@ fn before<'a>(name: &'a str) -> (&'a str, &'a str, &'a str)
 /// # Errors
 ///
 /// `Failed` where the sink failed: a front of the line was given.
-pub(crate) fn give_line<K: Sink>(out: &mut K, name: &str, report: Report) -> Result<(), Failed>
+pub(crate) fn give_line<K: Sink>(
+    out: &mut K,
+    side: SideChoice<'_>,
+    name: &str,
+    report: &Report,
+) -> Result<(), Failed>
     ensures whole { OnOk result (Appends (K.held out.old) (K.held out.new)
-        (line_of name.now report)) }
+        (line_of (side_of side.entry) name.now report.now)) }
     ensures part { OnErr result (AppendsPart (K.held out.old) (K.held out.new)
-        (line_of name.now report)) }
+        (line_of (side_of side.entry) name.now report.now)) }
     ensures cause { HasCause (K.faults out.old) (K.faults out.new) result }
 {
-    let (file, colon, shown) = before(name);
-    let said = said_of(shown, report);
-    give_five(out, file, colon, said.front.as_str(), said.name, said.back)
+    let (file, colon) = name_pieces(side, name, report);
+    let said = said_of(shown_name(name), *report);
+    give_six(
+        out,
+        file,
+        colon,
+        said.made.as_str(),
+        said.front,
+        said.name,
+        said.back,
+    )
 }

@@ -2,8 +2,6 @@
 ghost use Rattle.std.specs.Prelude.{◌≡◌};
 ghost use Rattle.ace_tool.specs.Packing.{advice_of, packing_of};
 
-use arrayvec::ArrayString;
-
 /// How a file is compressed.
 #[derive(Clone, Copy)]
 pub enum Packing {
@@ -25,14 +23,12 @@ pub(crate) fn packing_of(front: &[u8]) -> Option<Packing>
 }
 
 /// What is said of such a file before its name.
-pub(crate) fn advice_of(packing: Packing) -> ArrayString<64>
-    ensures { result.bytes ≡ advice_of packing }
+pub(crate) fn advice_of(packing: Packing) -> &'static str
+    ensures { result.now ≡ advice_of packing }
 {
-    let mut text = ArrayString::new();
     match packing {
-        Packing::Gzip => text.push_str("compressed; use: gzip -dc "),
-        Packing::Zstd => text.push_str("compressed; use: zstd -dc "),
-        Packing::Xz => text.push_str("compressed; use: xz -dc "),
+        Packing::Gzip => "compressed; use: gzip -dc ",
+        Packing::Zstd => "compressed; use: zstd -dc ",
+        Packing::Xz => "compressed; use: xz -dc ",
     }
-    text
 }

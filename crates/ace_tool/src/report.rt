@@ -1,9 +1,11 @@
 // What is told of a trace.
-ghost use Rattle.std.specs.Prelude.{◌≡◌, ◌≢◌};
-ghost use Rattle.ace_tool.specs.Reports.{open_text, status_of, status_of_verdict, verdict_text};
+ghost use Rattle.std.specs.Prelude.{◌≡◌, ◌≢◌, ◌≤◌, length};
+ghost use Rattle.ace_tool.specs.Reports.{open_text, status_of, status_of_fault, status_of_verdict, verdict_text};
 
 use crate::folder::OpenErr;
+use crate::gap::Gap;
 use crate::packing::Packing;
+use crate::side::SideFault;
 use ace_verdict::Verdict;
 use arrayvec::ArrayString;
 use itoa::Buffer;
@@ -17,10 +19,14 @@ pub enum Report {
     Shut { error: OpenErr },
     /// Its file is compressed.
     Compressed { packing: Packing },
+    /// Each of its events is accepted, and the recording is broken off.
+    Unfinished { events: u64, gap: Gap },
+    /// Each of its events is accepted, and its side file tells nothing.
+    BadSide { fault: SideFault },
 }
 
 /// The status of a verdict.
-fn status_of_verdict(verdict: Verdict) -> u8
+pub(crate) fn status_of_verdict(verdict: Verdict) -> u8
     ensures { result ≡ status_of_verdict verdict }
 {
     match verdict {
@@ -33,18 +39,31 @@ fn status_of_verdict(verdict: Verdict) -> u8
     }
 }
 
+/// The status where a side file tells nothing.
+fn status_of_fault(fault: SideFault) -> u8
+    ensures { result ≡ status_of_fault fault }
+{
+    match fault {
+        SideFault::Malformed { .. } => 3,
+        SideFault::ReadFault | SideFault::Shut { .. } => 4,
+        SideFault::NoMemory => 7,
+    }
+}
+
 /// The status of a report.
-pub(crate) fn status_of(report: Report) -> u8
-    ensures { result ≡ status_of report }
+pub(crate) fn status_of(report: &Report) -> u8
+    ensures { result ≡ status_of report.now }
 {
     match report {
-        Report::Told { verdict } => status_of_verdict(verdict),
+        Report::Told { verdict } => status_of_verdict(*verdict),
         Report::Shut { .. } | Report::Compressed { .. } => 4,
+        Report::Unfinished { .. } => 8,
+        Report::BadSide { fault } => status_of_fault(*fault),
     }
 }
 
 /// The text of a verdict, as `ace check` says it.
-pub(crate) fn verdict_text(verdict: Verdict) -> ArrayString<64>
+pub(crate) fn verdict_text(verdict: Verdict) -> ArrayString<384>
     ensures { result.bytes ≡ verdict_text verdict }
 {
     let mut text = ArrayString::new();
@@ -75,14 +94,13 @@ pub(crate) fn verdict_text(verdict: Verdict) -> ArrayString<64>
 }
 
 /// Why a file could not be opened, in words.
-pub(crate) fn open_text(error: OpenErr) -> ArrayString<64>
-    ensures { result.bytes ≡ open_text error }
+pub(crate) fn open_text(error: OpenErr) -> &'static str
+    ensures value { result.now ≡ open_text error }
+    ensures short { length result.now ≤ 40 }
 {
-    let mut text = ArrayString::new();
     match error {
-        OpenErr::NotThere => text.push_str("No such file or directory"),
-        OpenErr::NotAllowed => text.push_str("Permission denied"),
-        OpenErr::Failed => text.push_str("cannot be opened"),
+        OpenErr::NotThere => "No such file or directory",
+        OpenErr::NotAllowed => "Permission denied",
+        OpenErr::NoName | OpenErr::Failed => "cannot be opened",
     }
-    text
 }

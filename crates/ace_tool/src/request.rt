@@ -1,12 +1,13 @@
 // What the words of the command line ask.
 ghost use Rattle.std.specs.Prelude.{◌≡◌, ◌≢◌, ◌↔◌, List, ◌∷◌, [], codes, map, string_bytes, IfOk, IsTrue, MatchOption};
 ghost use Rattle.ace_tool.specs.Asked.{AsksCheck, CheckAsked};
-ghost use Rattle.ace_tool.specs.Requests.{Asks, Wish};
-ghost use Rattle.ace_tool.specs.Told.{check_of, wish_of};
+ghost use Rattle.ace_tool.specs.Told.{IsRequest, check_of};
 
 use crate::check_call::CheckCall;
 use crate::check_words::CheckWords;
+use crate::explain_words::{ExplainCall, explain_call};
 use ace_io::NoMemory;
+use ace_pages::pages_text;
 use std::alloc::Global;
 
 /// What the program is asked to do.
@@ -16,10 +17,18 @@ pub enum Request<'a> {
     Help,
     /// To tell how `check` is used.
     HelpOfCheck,
+    /// To tell how `explain` is used.
+    HelpOfExplain,
+    /// To tell how `rule` is used.
+    HelpOfRule,
     /// To tell the version.
     Version,
     /// To tell the verdicts on traces.
     Check { call: CheckCall<'a> },
+    /// To tell why a trace is refused.
+    Explain { call: ExplainCall<'a> },
+    /// To tell of rules: the text of their pages.
+    Pages { text: Vec<u8> },
 }
 
 /// Whether there is one word, and it asks for help.
@@ -41,10 +50,7 @@ fn check_call<'a>(alloc: Global, words: &'a [String]) -> Result<Option<CheckCall
         (λ c. AsksCheck (map string_bytes words.entry.now) (check_of c))) }
 {
     match CheckWords::read(alloc, words) {
-        Ok(Some(asked)) => match asked.finish() {
-            Ok(call) => Ok(Some(call)),
-            Err(NoMemory) => Err(NoMemory),
-        },
+        Ok(Some(asked)) => asked.finish(),
         Ok(None) => Ok(None),
         Err(NoMemory) => Err(NoMemory),
     }
@@ -53,9 +59,7 @@ fn check_call<'a>(alloc: Global, words: &'a [String]) -> Result<Option<CheckCall
 /// What the words ask of which `check` is the first, and these are the others.
 #[tactic(auto, using(crate::proofs::Words::requests))]
 fn check_request<'a>(alloc: Global, words: &'a [String]) -> Result<Option<Request<'a>>, NoMemory>
-    ensures { IfOk result (λ request. MatchOption request
-        ((wish : Wish) → ¬ Asks (codes "check" ∷ map string_bytes words.entry.now) wish)
-        (λ r. Asks (codes "check" ∷ map string_bytes words.entry.now) (wish_of r))) }
+    ensures { IfOk result (IsRequest (codes "check" ∷ map string_bytes words.entry.now)) }
 {
     if is_help(words) {
         return Ok(Some(Request::HelpOfCheck));
@@ -67,17 +71,67 @@ fn check_request<'a>(alloc: Global, words: &'a [String]) -> Result<Option<Reques
     }
 }
 
-/// What one word asks that isn't `check`.
+/// The same of `explain`.
+#[tactic(auto, using(crate::proofs::Words::requests))]
+fn explain_request<'a>(words: &'a [String]) -> Option<Request<'a>>
+    ensures { IsRequest (codes "explain" ∷ map string_bytes words.entry.now) result }
+{
+    if is_help(words) {
+        return Some(Request::HelpOfExplain);
+    }
+    match explain_call(words) {
+        Some(call) => Some(Request::Explain { call }),
+        None => None,
+    }
+}
+
+/// The same of `rule`.
+#[tactic(auto, using(crate::proofs::Words::requests))]
+fn rule_request<'a>(alloc: Global, words: &'a [String]) -> Result<Option<Request<'a>>, NoMemory>
+    ensures { IfOk result (IsRequest (codes "rule" ∷ map string_bytes words.entry.now)) }
+{
+    if is_help(words) {
+        return Ok(Some(Request::HelpOfRule));
+    }
+    match pages_text(alloc, words) {
+        Ok(Some(text)) => Ok(Some(Request::Pages { text })),
+        Ok(None) => Ok(None),
+        Err(NoMemory) => Err(NoMemory),
+    }
+}
+
+/// What one word asks that is no command.
 #[tactic(auto, using(crate::proofs::Words::requests))]
 fn lone_request<'a>(word: &str) -> Option<Request<'a>>
-    ensures { word.now ≢ codes "check" → MatchOption result ((wish : Wish)
-        → ¬ Asks (word.now ∷ []) wish)
-        (λ r. Asks (word.now ∷ []) (wish_of r)) }
+    ensures { word.now ≢ codes "check" → word.now ≢ codes "explain" → word.now ≢ codes "rule"
+        → IsRequest (word.now ∷ []) result }
 {
     match word {
         "--help" => Some(Request::Help),
         "--version" => Some(Request::Version),
         _ => None,
+    }
+}
+
+/// What the words ask of which this is the first, and these are the others.
+#[tactic(auto, using(crate::proofs::Words::requests))]
+fn command_request<'a>(
+    alloc: Global,
+    command: &str,
+    words: &'a [String],
+) -> Result<Option<Request<'a>>, NoMemory>
+    ensures { IfOk result (IsRequest (command.now ∷ map string_bytes words.entry.now)) }
+{
+    if command == "check" {
+        check_request(alloc, words)
+    } else if command == "explain" {
+        Ok(explain_request(words))
+    } else if command == "rule" {
+        rule_request(alloc, words)
+    } else if words.is_empty() {
+        Ok(lone_request(command))
+    } else {
+        Ok(None)
     }
 }
 
@@ -88,20 +142,10 @@ fn lone_request<'a>(word: &str) -> Option<Request<'a>>
 /// `NoMemory` where there is none for what they ask.
 #[tactic(auto, using(crate::proofs::Words::requests))]
 pub fn request_of<'a>(alloc: Global, words: &'a [String]) -> Result<Option<Request<'a>>, NoMemory>
-    ensures { IfOk result (λ request. MatchOption request
-        ((wish : Wish) → ¬ Asks (map string_bytes words.entry.now) wish)
-        (λ r. Asks (map string_bytes words.entry.now) (wish_of r))) }
+    ensures { IfOk result (IsRequest (map string_bytes words.entry.now)) }
 {
     match words.split_first() {
-        Some((first, rest)) => {
-            if first.as_str() == "check" {
-                check_request(alloc, rest)
-            } else if rest.is_empty() {
-                Ok(lone_request(first.as_str()))
-            } else {
-                Ok(None)
-            }
-        }
+        Some((first, rest)) => command_request(alloc, first.as_str(), rest),
         None => Ok(None),
     }
 }

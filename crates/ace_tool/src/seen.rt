@@ -10,6 +10,7 @@ pub(crate) struct Seen {
     some: bool,
     refused: bool,
     malformed: bool,
+    broken_off: bool,
     limited: bool,
     unreadable: bool,
     no_memory: bool,
@@ -26,6 +27,7 @@ impl Seen {
             some: false,
             refused: false,
             malformed: false,
+            broken_off: false,
             limited: false,
             unreadable: false,
             no_memory: false,
@@ -33,14 +35,15 @@ impl Seen {
     }
 
     /// There was one more.
-    pub(crate) fn add(&mut self, report: Report)
+    pub(crate) fn add(&mut self, report: &Report)
         ensures { (statuses : List ℕ) → HasSeen self.old statuses
-            → HasSeen self.new (status_of report ∷ statuses) }
+            → HasSeen self.new (status_of report.now ∷ statuses) }
     {
         self.some = true;
         match status_of(report) {
             1 => self.refused = true,
             3 => self.malformed = true,
+            8 => self.broken_off = true,
             6 => self.limited = true,
             4 => self.unreadable = true,
             7 => self.no_memory = true,
@@ -52,7 +55,7 @@ impl Seen {
     pub(crate) fn status(&self) -> u8
         ensures value { (statuses : List ℕ) → HasSeen self.now statuses → result
             ≡ status_of_all statuses }
-        ensures bound { result ≤ 7 }
+        ensures bound { result ≤ 8 }
         ensures no_write_fault { result ≢ 5 }
     {
         if !self.some {
@@ -61,6 +64,8 @@ impl Seen {
             1
         } else if self.malformed {
             3
+        } else if self.broken_off {
+            8
         } else if self.limited {
             6
         } else if self.unreadable {

@@ -1,6 +1,6 @@
 // The texts that say how the program is used.
 ghost use Rattle.std.specs.Prelude.{◌≡◌};
-ghost use Rattle.ace_tool.specs.Texts.{check_help, help, version};
+ghost use Rattle.ace_tool.specs.Texts.{check_help, explain_help, help, rule_help, version};
 
 /// How all commands are used.
 pub(crate) fn help() -> &'static str
@@ -11,6 +11,8 @@ pub(crate) fn help() -> &'static str
 Checks traces of AMBA ACE. The verdict is always that of `ace check`.
 
   check [FILE]..   the verdict on each trace
+  explain [FILE]   why a trace is refused: the event, the rule, and the clause of it that is broken
+  rule [NAME]..    what a rule asks: K12 with its clauses, or K12d; without a name the rules
 
 FILE is a trace; `-`, or no file, is standard input. `acetool COMMAND --help` tells more, and
 `acetool --version` the version.
@@ -21,13 +23,52 @@ FILE is a trace; `-`, or no file, is standard input. `acetool COMMAND --help` te
 pub(crate) fn check_help() -> &'static str
     ensures { result.now ≡ check_help }
 {
-    "usage: acetool check [--] [FILE]..
+    "usage: acetool check [OPTION].. [--] [FILE]..
 
 Says of each trace what `ace check` says of it, in a line FILE: VERDICT, and of standard input the
-verdict alone.
+verdict alone. It has no limits but those that are asked for. Where the side file of an accepted
+trace says that the recording is broken off, the trace is unfinished.
 
-status: 0 each trace was accepted; else the first that came of 1 refused, 3 malformed, 6 a limit,
-4 unreadable, 7 no memory; 5 an output failed; 2 these words are wrong
+  --most-events N  a trace may have N events at most
+  --most-lines N   a trace may name N lines at most
+  --side FILE      the side file of the one trace; that of a FILE is else FILE.side, if it is there
+  --no-side        no side file is read
+  --require-end    a trace without a side file is unfinished
+  --allow-cut      a recording that was cut on demand is whole
+
+status: 0 each trace was accepted, and none is unfinished; else the first that came of 1 refused,
+3 malformed, 8 unfinished, 6 a limit, 4 unreadable, 7 no memory; 5 an output failed; 2 these words
+are wrong
+"
+}
+
+/// How `explain` is used.
+pub(crate) fn explain_help() -> &'static str
+    ensures { result.now ≡ explain_help }
+{
+    "usage: acetool explain [--short] [--] [FILE]
+
+Says of the trace what `ace check` says, after FILE:LINE:, and what is wrong there. Of a refused
+trace it tells the event that is the first to break a rule, and the clause of the rule that is
+broken.
+
+  --short          the first line alone
+
+status: 0 accepted, 1 refused, 3 malformed, 4 unreadable, 7 no memory; 5 the output failed; 2 these
+words are wrong
+"
+}
+
+/// How `rule` is used.
+pub(crate) fn rule_help() -> &'static str
+    ensures { result.now ≡ rule_help }
+{
+    "usage: acetool rule [NAME]..
+
+Tells each rule that is named, as K12, with its clauses: where each is kept, and what is wrong where
+it is broken. K12d names one clause of it. Without a name it tells what the rules are called.
+
+status: 0 it was told, 7 no memory; 5 the output failed; 2 these words are wrong
 "
 }
 

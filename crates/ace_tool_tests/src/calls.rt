@@ -14,7 +14,11 @@ const INPUT: &str = "ACE 1\nPORTS AA\n";
 
 const ANY: &str = "usage: acetool COMMAND [OPTION].. [FILE]..\n";
 
-const CHECK: &str = "usage: acetool check [--] [FILE]..\n";
+const CHECK: &str = "usage: acetool check [OPTION].. [--] [FILE]..\n";
+
+const EXPLAIN: &str = "usage: acetool explain [--short] [--] [FILE]\n";
+
+const RULE: &str = "usage: acetool rule [NAME]..\n";
 
 const CALLS: [Row; 33] = [
     ("check", 0, "accepted 0\n", ""),
@@ -87,6 +91,297 @@ const CALLS: [Row; 33] = [
     ("check --help good", 2, "", CHECK),
 ];
 
+/// Limits, and how options are written.
+const LIMITS: [Row; 18] = [
+    ("check --most-events 1 good", 0, "good: accepted 1\n", ""),
+    (
+        "check --most-events 0 good -",
+        6,
+        "good: limit events\naccepted 0\n",
+        "",
+    ),
+    ("check good --most-events=0", 6, "good: limit events\n", ""),
+    (
+        "check --most-events 18446744073709551615 good",
+        0,
+        "good: accepted 1\n",
+        "",
+    ),
+    ("check --most-lines 0 line", 6, "line: limit lines\n", ""),
+    ("check --most-lines=1 line", 0, "line: accepted 1\n", ""),
+    (
+        "check --most-lines 0 good --most-events 5",
+        0,
+        "good: accepted 1\n",
+        "",
+    ),
+    (
+        "check --most-events 0 good malformed",
+        6,
+        "good: limit events\nmalformed: limit events\n",
+        "",
+    ),
+    (
+        "check -- --most-events 0 good",
+        4,
+        "--most-events: No such file or directory\n0: No such file or directory\ngood: accepted 1\n",
+        "",
+    ),
+    (
+        "check --most-events 18446744073709551616 good",
+        2,
+        "",
+        CHECK,
+    ),
+    ("check --most-events 01 good", 2, "", CHECK),
+    ("check --most-events -1 good", 2, "", CHECK),
+    ("check --most-events= good", 2, "", CHECK),
+    ("check --most-events", 2, "", CHECK),
+    ("check good --most-lines", 2, "", CHECK),
+    ("check --most-lines -- good", 2, "", CHECK),
+    ("check --most-events 1 --most-events=1 good", 2, "", CHECK),
+    ("check --most 1 good", 2, "", CHECK),
+];
+
+/// Side files.
+const SIDES: [Row; 37] = [
+    ("check whole", 0, "whole: accepted 1\n", ""),
+    ("check --require-end whole", 0, "whole: accepted 1\n", ""),
+    (
+        "check --require-end good",
+        8,
+        "good: unfinished: 1 events, and there is no side file\n",
+        "",
+    ),
+    (
+        "check --require-end",
+        8,
+        "unfinished: 0 events, and there is no side file\n",
+        "",
+    ),
+    (
+        "check --require-end --no-side whole",
+        8,
+        "whole: unfinished: 1 events, and there is no side file\n",
+        "",
+    ),
+    (
+        "check goes_on",
+        8,
+        "goes_on: unfinished: 1 events, and the side file has no END\n",
+        "",
+    ),
+    ("check --no-side goes_on", 0, "goes_on: accepted 1\n", ""),
+    (
+        "check other",
+        8,
+        "other: unfinished: the side file says END 2, and the trace has 1 events\n",
+        "",
+    ),
+    (
+        "check broken",
+        8,
+        "broken: unfinished: the recorder stopped after 1 events: X in a field\n",
+        "",
+    ),
+    (
+        "check mute --allow-cut",
+        8,
+        "mute: unfinished: the recorder stopped after 1 events\n",
+        "",
+    ),
+    (
+        "check cut --require-end",
+        8,
+        "cut: unfinished: cut after 1 events on demand\n",
+        "",
+    ),
+    (
+        "check cut --allow-cut --require-end",
+        0,
+        "cut: accepted 1\n",
+        "",
+    ),
+    (
+        "check --allow-cut cut_more",
+        8,
+        "cut_more: unfinished: the side file says CUT 2, and the trace has 1 events\n",
+        "",
+    ),
+    (
+        "check cut_more",
+        8,
+        "cut_more: unfinished: cut after 2 events on demand\n",
+        "",
+    ),
+    (
+        "check bad",
+        3,
+        "bad.side:3: malformed side line 3: S4\n",
+        "",
+    ),
+    (
+        "check headless",
+        3,
+        "headless.side:1: malformed side line 1: S1\n",
+        "",
+    ),
+    ("check hidden", 4, "hidden.side: Permission denied\n", ""),
+    ("check faulty", 4, "faulty.side: read fault\n", ""),
+    ("check too_long", 0, "too_long: accepted 1\n", ""),
+    (
+        "check --require-end malformed refused",
+        1,
+        "malformed: malformed line 3: F2\nrefused: refused event 1: K22\n",
+        "",
+    ),
+    ("check --most-events 0 bad", 6, "bad: limit events\n", ""),
+    (
+        "check cut bad cut",
+        3,
+        "cut: unfinished: cut after 1 events on demand\nbad.side:3: malformed side line 3: S4\ncut: unfinished: cut after 1 events on demand\n",
+        "",
+    ),
+    (
+        "check nope cut",
+        8,
+        "nope: No such file or directory\ncut: unfinished: cut after 1 events on demand\n",
+        "",
+    ),
+    ("check --side whole.side good", 0, "good: accepted 1\n", ""),
+    (
+        "check --side=cut.side whole",
+        8,
+        "whole: unfinished: cut after 1 events on demand\n",
+        "",
+    ),
+    (
+        "check --side whole.side",
+        8,
+        "unfinished: the side file says END 1, and the trace has 0 events\n",
+        "",
+    ),
+    (
+        "check --side bad.side -",
+        3,
+        "bad.side:3: malformed side line 3: S4\n",
+        "",
+    ),
+    (
+        "check --side nope good",
+        4,
+        "nope: No such file or directory\n",
+        "",
+    ),
+    (
+        "check --side --most-events good",
+        4,
+        "--most-events: No such file or directory\n",
+        "",
+    ),
+    (
+        "check --no-side --no-side whole",
+        0,
+        "whole: accepted 1\n",
+        "",
+    ),
+    ("check --side whole.side good good", 2, "", CHECK),
+    ("check --side whole.side --no-side good", 2, "", CHECK),
+    (
+        "check --side whole.side --side=whole.side good",
+        2,
+        "",
+        CHECK,
+    ),
+    ("check --side - good", 2, "", CHECK),
+    ("check good --side", 2, "", CHECK),
+    ("check --no-side=1 good", 2, "", CHECK),
+    ("check --require-end=yes good", 2, "", CHECK),
+];
+
+/// Why traces are refused, and what rules ask.
+const TOLD: [Row; 34] = [
+    ("explain", 0, "<stdin>: accepted 0\n", ""),
+    ("explain -", 0, "<stdin>: accepted 0\n", ""),
+    ("explain good", 0, "good: accepted 1\n", ""),
+    ("explain -- -x", 0, "-x: accepted 1\n", ""),
+    ("explain --short -- good", 0, "good: accepted 1\n", ""),
+    (
+        "explain refused",
+        1,
+        "refused:3: refused event 1: K22: the port acknowledges, and no read of it is complete\n\n  RK 0 UC\n\n  K22a  a read acknowledge has a read: the port has a complete read without RK\n",
+        "",
+    ),
+    (
+        "explain --short refused",
+        1,
+        "refused:3: refused event 1: K22: the port acknowledges, and no read of it is complete\n",
+        "",
+    ),
+    (
+        "explain refused --short",
+        1,
+        "refused:3: refused event 1: K22: the port acknowledges, and no read of it is complete\n",
+        "",
+    ),
+    (
+        "explain malformed",
+        3,
+        "malformed:3: malformed line 3: F2: the line doesn't begin with a record of this version\n",
+        "",
+    ),
+    (
+        "explain short",
+        3,
+        "short:1: malformed line 1: F1: the line is missing, or has no line feed within 256 bytes: was the recording cut off here?\n",
+        "",
+    ),
+    (
+        "explain xz",
+        4,
+        "xz: compressed; use: xz -dc xz | acetool explain -\n",
+        "",
+    ),
+    ("explain failing", 4, "failing: read fault\n", ""),
+    (
+        "explain failing_later",
+        4,
+        "failing_later: read fault\n",
+        "",
+    ),
+    ("explain secret", 4, "secret: Permission denied\n", ""),
+    ("explain nope", 4, "nope: No such file or directory\n", ""),
+    ("explain good good", 2, "", EXPLAIN),
+    ("explain - good", 2, "", EXPLAIN),
+    ("explain --long good", 2, "", EXPLAIN),
+    ("explain -x", 2, "", EXPLAIN),
+    ("explain --short=1 good", 2, "", EXPLAIN),
+    ("explain --help good", 2, "", EXPLAIN),
+    (
+        "rule K12d",
+        0,
+        "K12  one grant for a line\n  K12d  no transaction on its line is granted\n        broken:  the line is still granted to another transaction\n",
+        "",
+    ),
+    (
+        "rule K5 K5a",
+        0,
+        "K5  one transaction of a port on a line\n  K5a  no transaction of this port on this line is outstanding\n        broken:  the port has a transaction of this line outstanding\nK5  one transaction of a port on a line\n  K5a  no transaction of this port on this line is outstanding\n        broken:  the port has a transaction of this line outstanding\n",
+        "",
+    ),
+    ("rule K41", 2, "", RULE),
+    ("rule K0", 2, "", RULE),
+    ("rule K12j", 2, "", RULE),
+    ("rule k12", 2, "", RULE),
+    ("rule K12 K41", 2, "", RULE),
+    ("rule --", 2, "", RULE),
+    ("rule --help K12", 2, "", RULE),
+    ("K12", 2, "", ANY),
+    ("Rule K12", 2, "", ANY),
+    ("explained", 2, "", ANY),
+    ("--help explain", 2, "", ANY),
+];
+
 /// The words as a program has them.
 fn owned(alloc: Global, words: &str) -> Result<Vec<String>, Fail> {
     let mut owned = Vec::new(alloc);
@@ -154,8 +449,37 @@ fn each_call_has_its_answer(rt: HostRuntime) -> Result<(), Fail> {
 }
 
 #[test]
+fn limits_are_those_that_are_asked_for(rt: HostRuntime) -> Result<(), Fail> {
+    for row in LIMITS {
+        assert!(rt; answers(rt.alloc(), &row)?, "{}", row.0);
+    }
+    Ok(())
+}
+
+#[test]
+fn side_files_tell_of_broken_recordings(rt: HostRuntime) -> Result<(), Fail> {
+    for row in SIDES {
+        assert!(rt; answers(rt.alloc(), &row)?, "{}", row.0);
+    }
+    Ok(())
+}
+
+#[test]
+fn traces_are_explained_and_rules_are_told(rt: HostRuntime) -> Result<(), Fail> {
+    for row in TOLD {
+        assert!(rt; answers(rt.alloc(), &row)?, "{}", row.0);
+    }
+    Ok(())
+}
+
+#[test]
 fn help_goes_to_the_standard_output(rt: HostRuntime) -> Result<(), Fail> {
-    for (words, front) in [("--help", ANY), ("check --help", CHECK)] {
+    for (words, front) in [
+        ("--help", ANY),
+        ("check --help", CHECK),
+        ("explain --help", EXPLAIN),
+        ("rule --help", RULE),
+    ] {
         let answered = call(rt.alloc(), words, (999, 0))?;
         let holds = answered.status == 0 && answered.out.bytes().starts_with(front.as_bytes());
         drop(answered);

@@ -26,17 +26,32 @@ impl Source for Opened {
     }
 }
 
-/// Files of some names, in pieces of three bytes. One fails at its first byte, one later, and
-/// one may not be read.
+/// Files of some names, in pieces of three bytes, and side files beside some of them. Some fail at
+/// their first byte, one later, and some may not be read.
 #[derive(Drop)]
 pub struct Shelf {
     pub alloc: Global,
 }
 
-/// The bytes of a file, if there is one of this name.
-fn bytes_of(name: &str) -> Option<&'static [u8]> {
+/// The bytes of a trace, if there is one of this name.
+fn trace_of(name: &str) -> Option<&'static [u8]> {
     match name {
-        "good" | "-x" | "a=b" => Some(b"ACE 1\nPORTS AA\nOP 0 0000 ok\n"),
+        "good"
+        | "-x"
+        | "a=b"
+        | "whole"
+        | "goes_on"
+        | "other"
+        | "broken"
+        | "mute"
+        | "cut"
+        | "cut_more"
+        | "bad"
+        | "headless"
+        | "hidden"
+        | "too_long"
+        | "faulty" => { Some(b"ACE 1\nPORTS AA\nOP 0 0000 ok\n") }
+        "line" => Some(b"ACE 1\nPORTS AA\nAR 0 0 00000040 1 1 0 0\n"),
         "refused" => Some(b"ACE 1\nPORTS A\nRK 0 UC\n"),
         "malformed" => Some(b"ACE 1\nPORTS AA\nXX 0\n"),
         "empty" => Some(b""),
@@ -49,10 +64,34 @@ fn bytes_of(name: &str) -> Option<&'static [u8]> {
     }
 }
 
+/// The bytes of a side file, if there is one of this name.
+fn side_of(name: &str) -> Option<&'static [u8]> {
+    match name {
+        "whole.side" | "faulty.side" => Some(b"ACE SIDE 1\nT 1 5\nEND 1\n"),
+        "goes_on.side" => Some(b"ACE SIDE 1\nT 1 5\n"),
+        "other.side" => Some(b"ACE SIDE 1\nEND 2\n"),
+        "broken.side" => Some(b"ACE SIDE 1\nNOTE 0 one\nNOTE 1 X in a field\nT 1 5\nBROKEN 1\n"),
+        "mute.side" | "malformed.side" => Some(b"ACE SIDE 1\nBROKEN 1\n"),
+        "cut.side" => Some(b"ACE SIDE 1\nCUT 1\n"),
+        "cut_more.side" => Some(b"ACE SIDE 1\nCUT 2\n"),
+        "bad.side" | "refused.side" => Some(b"ACE SIDE 1\nT 1 5\nEND x\n"),
+        "headless.side" => Some(b"END 1\n"),
+        _ => None,
+    }
+}
+
+/// The bytes of a file, if there is one of this name.
+fn bytes_of(name: &str) -> Option<&'static [u8]> {
+    match trace_of(name) {
+        Some(bytes) => Some(bytes),
+        None => side_of(name),
+    }
+}
+
 /// Which of the takes of a file fail.
 fn fails_of(name: &str) -> &'static [u32] {
     match name {
-        "failing" => &[0],
+        "failing" | "faulty.side" => &[0],
         "failing_later" => &[5],
         _ => &[],
     }
@@ -61,7 +100,8 @@ fn fails_of(name: &str) -> &'static [u32] {
 /// Why a file that isn't there can't be opened.
 fn reason_of(name: &str) -> OpenErr {
     match name {
-        "secret" => OpenErr::NotAllowed,
+        "secret" | "hidden.side" => OpenErr::NotAllowed,
+        "too_long.side" => OpenErr::NoName,
         "odd" => OpenErr::Failed,
         _ => OpenErr::NotThere,
     }
@@ -70,7 +110,9 @@ fn reason_of(name: &str) -> OpenErr {
 impl Folder for Shelf {
     type File = Opened;
 
-    ghost holds = { λ _ _. None };
+    ghost use Rattle.ace_tool.specs.Held.{Untold};
+
+    ghost holds = { λ _ _. Untold };
 
     fn open(&self, name: &str) -> Result<Opened, OpenErr> {
         let Some(bytes) = bytes_of(name) else {

@@ -20,15 +20,16 @@ struct Disk<'a> {
 impl<'a> Folder for Disk<'a> {
     type File = StdSource<Patient<File>>;
 
-    ghost use Rattle.std.specs.Prelude.{None};
+    ghost use Rattle.ace_tool.specs.Held.{Untold};
 
-    ghost holds = { λ _ _. None };
+    ghost holds = { λ _ _. Untold };
 
     fn open(&self, name: &str) -> Result<StdSource<Patient<File>>, OpenErr> {
         match fs::open(self.rt, name) {
             Ok(file) => Ok(StdSource::new(Patient::new(file))),
             Err(error) => Err(match error.kind() {
                 ErrorKind::NotFound => OpenErr::NotThere,
+                ErrorKind::InvalidFilename => OpenErr::NoName,
                 ErrorKind::PermissionDenied => OpenErr::NotAllowed,
                 _ => OpenErr::Failed,
             }),
