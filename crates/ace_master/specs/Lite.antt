@@ -32,7 +32,8 @@ port_of s = one_port.port_of s.port
 abbrev pub both_of : Option Transaction → Option Transaction → List Transaction
 both_of reads writes = option_to_list reads ++ option_to_list writes
 
--- the operation retires once its acts are done: a WriteUnique or WriteLineUnique retires as soon as it is issued
+-- the operation retires once its acts are done: a WriteUnique or WriteLineUnique retires as soon as
+-- it is issued
 abbrev pub awaits_acts : Op → Bool
 awaits_acts (Wu a strobe line) = false
 awaits_acts (Wlu a line) = false
@@ -41,7 +42,8 @@ awaits_acts _ = true
 -- the transactions are none, or all acts of an operation that awaits them
 abbrev pub are_none_or_all : Option Op → List Transaction → Bool
 are_none_or_all next [] = true
-are_none_or_all next xs = is_some_and next (λ op. awaits_acts op && (length xs == length (acts_of op)))
+are_none_or_all next xs = is_some_and next (λ op. awaits_acts op
+    && (length xs == length (acts_of op)))
 
 -- The port has issued these for its next operation: nothing, or all acts of it.
 pub record AreIssued (plan : Plan) (past : Trace) (p : ℕ) (xs : List Transaction) : Type 0 where
@@ -57,7 +59,8 @@ kind_written (Wlu a line) = Some write.WriteLineUnique
 kind_written (Wn a strobe line) = Some write.WriteNoSnoop
 kind_written _ = None
 
--- All bursts are sent but that of the last write, and these are the data of the operation for which that was issued.
+-- All bursts are sent but that of the last write, and these are the data of the operation for which
+-- that was issued.
 pub record IsUnsent (plan : Plan) (past : Trace) (p : ℕ) (d : WriteData) : Type 0 where
   pub earlier : List Transaction
   pub last : Transaction
@@ -73,7 +76,8 @@ abbrev pub AreSent : Plan → Trace → ℕ → Option WriteData → Type 0
 AreSent plan past p None = length (beats past p) ≡ 4 * length (data_writes past p)
 AreSent plan past p (Some d) = IsUnsent plan past p d
 
--- What it keeps beside its port: the port's operations, what the port has issued for the next of them, and the data of the burst that isn't sent.
+-- What it keeps beside its port: the port's operations, what the port has issued for the next of
+-- them, and the data of the burst that isn't sent.
 pub record LiteTells (plan : Plan) (past : Trace) (p : ℕ) (operations : List Op) (reads writes : Option Transaction) (unsent : Option WriteData) : Type 0 where
   pub low : nat_lt p plan.header.ports ≡ true
   pub lite : is_ace plan.header p ≡ false

@@ -14,15 +14,18 @@ use Rattle.ace_portck.specs.declared.target.WriteData.{WriteData}
 use Rattle.ace_master.specs.Lite.{AreSent, LiteStands, are_none_or_all, both_of, port_of}
 use Rattle.ace_master.specs.declared.lite.LiteMaster.{LiteMaster}
 
-pub legal : (s : LiteMaster) (plan : Plan) (past : Trace) → LiteStands s plan past → IsLegal plan past
+pub legal : (s : LiteMaster) (plan : Plan) (past : Trace) → LiteStands s plan past
+    → IsLegal plan past
 legal s plan past stands = stands.port.legal
 
 -- the operations of its own port stay
-pub same-operations : (plan : Plan) (o : PlanOp) (p : ℕ) → (o.port == p) ≡ false → operations_of (longer plan o) p ≡ operations_of plan p
+pub same-operations : (plan : Plan) (o : PlanOp) (p : ℕ) → (o.port == p) ≡ false
+    → operations_of (longer plan o) p ≡ operations_of plan p
 same-operations plan o p other =
     operations-longer plan (o ∷ []) p ∙ ap (λ (b : Bool). operations_of plan p ++ map (λ (v : PlanOp). v.op) (if b then o ∷ [] else [])) other ∙ append-nil (operations_of plan p)
 
-pub sent-longer : (plan : Plan) (o : PlanOp) (past : Trace) (p : ℕ) (unsent : Option WriteData) → AreSent plan past p unsent → AreSent (longer plan o) past p unsent
+pub sent-longer : (plan : Plan) (o : PlanOp) (past : Trace) (p : ℕ) (unsent : Option WriteData)
+    → AreSent plan past p unsent → AreSent (longer plan o) past p unsent
 sent-longer plan o past p None sent = sent
 sent-longer plan o past p (Some d) u = record {
   earlier = u.earlier;
@@ -35,7 +38,8 @@ sent-longer plan o past p (Some d) u = record {
   carries = u.carries;
 }
 
-pub grows : (s : LiteMaster) (plan : Plan) (past : Trace) (o : PlanOp) → LiteStands s plan past → IsRight (longer plan o)
+pub grows : (s : LiteMaster) (plan : Plan) (past : Trace) (o : PlanOp) → LiteStands s plan past
+    → IsRight (longer plan o)
     → is_their_operation Master (λ p. p == port_of s) o ≡ false → LiteStands s (longer plan o) past
 grows s plan past o stands right other = record {
   port = record { legal = legal-longer plan past o stands.port.legal right; kept = stands.port.kept; room = stands.port.room };

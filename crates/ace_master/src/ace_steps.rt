@@ -29,11 +29,16 @@ impl AcePort {
     /// Answers the port's oldest unanswered snoop, if there is a row for it.
     pub fn answer<P: Policy>(&mut self, policy: &mut P, out: &mut Burst) -> bool
         requires { out.old ≡ [] }
-        ensures turn { IsTrue result → (plan : Plan) (past : Trace) → AcePortStands self.old plan past → IsByWord plan.policy (P.rows policy.old)
+        ensures turn { IsTrue result → (plan : Plan) (past : Trace)
+            → AcePortStands self.old plan past → IsByWord plan.policy (P.rows policy.old)
             → IsAceTurn self.new plan past out.new }
-        ensures none { result ≡ false → (plan : Plan) (past : Trace) → AcePortStands self.old plan past → may_answer_snoop plan.header past self.old.port ≡ false }
-        ensures same_rows { (k : SnoopKind) (st : LineState) (u : Bool) → P.rows policy.new k st u ≡ P.rows policy.old k st u }
-        ensures unchanged { result ≡ false → (self.new ≡ self.old) × (policy.new ≡ policy.old) × (out.new ≡ []) }
+        ensures none { result ≡ false → (plan : Plan) (past : Trace)
+            → AcePortStands self.old plan past
+            → may_answer_snoop plan.header past self.old.port ≡ false }
+        ensures same_rows { (k : SnoopKind) (st : LineState) (u : Bool)
+            → P.rows policy.new k st u ≡ P.rows policy.old k st u }
+        ensures unchanged { result ≡ false
+            → (self.new ≡ self.old) × (policy.new ≡ policy.old) × (out.new ≡ []) }
         ensures port { self.new.port ≡ self.old.port }
     {
         if !answering::answer(&self.kept.port, &self.kept.lines, policy, out) {
@@ -46,8 +51,10 @@ impl AcePort {
     /// Sends the data of the write whose burst isn't sent, if there is one.
     pub fn send(&mut self, out: &mut Burst) -> bool
         requires { out.old ≡ [] }
-        ensures turn { IsTrue result → (plan : Plan) (past : Trace) → AcePortStands self.old plan past → IsAceTurn self.new plan past out.new }
-        ensures none { result ≡ false → (plan : Plan) (past : Trace) → AcePortStands self.old plan past → may_send plan.header past self.old.port ≡ false }
+        ensures turn { IsTrue result → (plan : Plan) (past : Trace)
+            → AcePortStands self.old plan past → IsAceTurn self.new plan past out.new }
+        ensures none { result ≡ false → (plan : Plan) (past : Trace)
+            → AcePortStands self.old plan past → may_send plan.header past self.old.port ≡ false }
         ensures unchanged { result ≡ false → (self.new ≡ self.old) × (out.new ≡ []) }
         ensures port { self.new.port ≡ self.old.port }
     {
@@ -61,8 +68,11 @@ impl AcePort {
     /// Issues a DVM Complete that the port owes, if an identifier is free.
     pub fn complete(&mut self, out: &mut Burst) -> bool
         requires { out.old ≡ [] }
-        ensures turn { IsTrue result → (plan : Plan) (past : Trace) → AcePortStands self.old plan past → IsAceTurn self.new plan past out.new }
-        ensures none { result ≡ false → (plan : Plan) (past : Trace) → AcePortStands self.old plan past → completion_bursts plan.header past self.old.port ≡ [] }
+        ensures turn { IsTrue result → (plan : Plan) (past : Trace)
+            → AcePortStands self.old plan past → IsAceTurn self.new plan past out.new }
+        ensures none { result ≡ false → (plan : Plan) (past : Trace)
+            → AcePortStands self.old plan past
+            → completion_bursts plan.header past self.old.port ≡ [] }
         ensures unchanged { result ≡ false → (self.new ≡ self.old) × (out.new ≡ []) }
         ensures port { self.new.port ≡ self.old.port }
     {
@@ -78,11 +88,14 @@ impl AcePort {
         true
     }
 
-    /// Ends the port's next operation, which doesn't wait, if it can end without asking for anything.
+    /// Ends the port's next operation, which doesn't wait, if it can end without asking for
+    /// anything.
     pub fn end(&mut self, op: Op, out: &mut Burst) -> bool
         requires { out.old ≡ [] }
-        ensures turn { IsTrue result → (plan : Plan) (past : Trace) → IsGoingOn self.old plan past op → IsAceTurn self.new plan past out.new }
-        ensures none { result ≡ false → (plan : Plan) (past : Trace) → IsGoingOn self.old plan past op → closing_of plan.header past self.old.port op ≡ [] }
+        ensures turn { IsTrue result → (plan : Plan) (past : Trace)
+            → IsGoingOn self.old plan past op → IsAceTurn self.new plan past out.new }
+        ensures none { result ≡ false → (plan : Plan) (past : Trace)
+            → IsGoingOn self.old plan past op → closing_of plan.header past self.old.port op ≡ [] }
         ensures unchanged { result ≡ false → (self.new ≡ self.old) × (out.new ≡ []) }
         ensures port { self.new.port ≡ self.old.port }
     {
@@ -98,11 +111,15 @@ impl AcePort {
         true
     }
 
-    /// What the port asks for by its next operation, which doesn't wait and can't end without it, if it can ask.
+    /// What the port asks for by its next operation, which doesn't wait and can't end without it,
+    /// if it can ask.
     pub fn asking_for(&self, op: Op) -> Option<Asking>
-        ensures step { (plan : Plan) (past : Trace) (asking : Asking) → IsGoingOn self.now plan past op → closing_of plan.header past self.now.port op ≡ [] → result ≡ Some asking
+        ensures step { (plan : Plan) (past : Trace) (asking : Asking)
+            → IsGoingOn self.now plan past op → closing_of plan.header past self.now.port op ≡ []
+            → result ≡ Some asking
             → is_step_by own_steps plan past self.now.port (and_closing plan.header past self.now.port op (events_of asking)) ≡ true }
-        ensures none { (plan : Plan) (past : Trace) → IsGoingOn self.now plan past op → closing_of plan.header past self.now.port op ≡ [] → result ≡ None
+        ensures none { (plan : Plan) (past : Trace) → IsGoingOn self.now plan past op
+            → closing_of plan.header past self.now.port op ≡ [] → result ≡ None
             → moves_of plan.ways plan.header past self.now.port op ≡ [] }
         ensures asks { (plan : Plan) (past : Trace) → AcePortStands self.now plan past
             → IsOneOf result (bursts_of plan.ways plan.header past self.now.port (request_of op (state_named plan.header past self.now.port op))) }

@@ -30,7 +30,8 @@ use ace_tables::is_dirty;
 
 /// The port has no outstanding write that may not be beside one of the kind (Arm IHI 0022E, C4).
 fn keeps_apart(port: &OnePort, kind: AwKind) -> bool
-    ensures { (h : Header) (past : Trace) (p : ℕ) → OnePortStands port.now h past p → result ≡ keeps_apart h past p kind }
+    ensures { (h : Header) (past : Trace) (p : ℕ) → OnePortStands port.now h past p
+        → result ≡ keeps_apart h past p kind }
 {
     !(gives_up(kind) && port.has_unique_write()) && !(is_unique_write(kind) && port.has_giving_up())
 }
@@ -43,7 +44,9 @@ fn read_burst(
     addr: u32,
     lock: bool,
 ) -> Option<Asking>
-    ensures { (h : Header) (past : Trace) (p : ℕ) → OnePortStands port.now h past p → IdentifiersStand h past p identifiers.now → read_bursts h past p kind addr lock ≡ only result }
+    ensures { (h : Header) (past : Trace) (p : ℕ) → OnePortStands port.now h past p
+        → IdentifiersStand h past p identifiers.now
+        → read_bursts h past p kind addr lock ≡ only result }
 {
     let id = identifiers.free_on(Channel::Read)?;
     Some(Asking::One(ar_of(port.port(), id, kind, addr, lock)))
@@ -51,7 +54,9 @@ fn read_burst(
 
 /// A write of the line, if an identifier is free, and no outstanding write forbids it.
 fn write_burst(port: &OnePort, identifiers: &Identifiers, kind: AwKind, addr: u32) -> Option<Asking>
-    ensures { (h : Header) (past : Trace) (p : ℕ) → OnePortStands port.now h past p → IdentifiersStand h past p identifiers.now → write_bursts h past p kind addr ≡ only result }
+    ensures { (h : Header) (past : Trace) (p : ℕ) → OnePortStands port.now h past p
+        → IdentifiersStand h past p identifiers.now
+        → write_bursts h past p kind addr ≡ only result }
 {
     let id = identifiers.free_on(Channel::Write)?;
     if !keeps_apart(port, kind) {
@@ -62,7 +67,8 @@ fn write_burst(port: &OnePort, identifiers: &Identifiers, kind: AwKind, addr: u3
 
 /// Both halves of a barrier, if an identifier is free on both channels.
 fn barrier_burst(port: &OnePort, identifiers: &Identifiers, bar: u8) -> Option<Asking>
-    ensures { (h : Header) (past : Trace) (p : ℕ) → OnePortStands port.now h past p → IdentifiersStand h past p identifiers.now → barrier_bursts h past p bar ≡ only result }
+    ensures { (h : Header) (past : Trace) (p : ℕ) → OnePortStands port.now h past p
+        → IdentifiersStand h past p identifiers.now → barrier_bursts h past p bar ≡ only result }
 {
     let id = identifiers.free_on_both()?;
     Some(Asking::Two(
@@ -78,7 +84,9 @@ fn message_burst(
     word: u32,
     second: u32,
 ) -> Option<Asking>
-    ensures { (h : Header) (past : Trace) (p : ℕ) → OnePortStands port.now h past p → IdentifiersStand h past p identifiers.now → message_bursts h past p word second ≡ only result }
+    ensures { (h : Header) (past : Trace) (p : ℕ) → OnePortStands port.now h past p
+        → IdentifiersStand h past p identifiers.now
+        → message_bursts h past p word second ≡ only result }
 {
     let id = identifiers.free_on(Channel::Read)?;
     let next = identifiers.free_on_beside(Channel::Read, id)?;
@@ -101,7 +109,9 @@ fn drop_burst(port: &OnePort, addr: u32) -> Asking
 
 /// How the port makes room where it has none: it gives a line up, and writes a dirty one back.
 fn room_burst(port: &OnePort, identifiers: &Identifiers, lines: &Cached) -> Option<Asking>
-    ensures { (h : Header) (ways : ℕ) (past : Trace) (p : ℕ) → OnePortStands port.now h past p → IdentifiersStand h past p identifiers.now → CachedStands h ways past p lines.now → has_room ways h past p ≡ false
+    ensures { (h : Header) (ways : ℕ) (past : Trace) (p : ℕ) → OnePortStands port.now h past p
+        → IdentifiersStand h past p identifiers.now → CachedStands h ways past p lines.now
+        → has_room ways h past p ≡ false
         → IsOneOf result (room_bursts h past p) }
 {
     let id = identifiers.free_on(Channel::Write)?;
@@ -125,7 +135,8 @@ fn miss_burst(
     addr: u32,
     lock: bool,
 ) -> Option<Asking>
-    ensures { (h : Header) (ways : ℕ) (past : Trace) (p : ℕ) → OnePortStands port.now h past p → IdentifiersStand h past p identifiers.now → CachedStands h ways past p lines.now
+    ensures { (h : Header) (ways : ℕ) (past : Trace) (p : ℕ) → OnePortStands port.now h past p
+        → IdentifiersStand h past p identifiers.now → CachedStands h ways past p lines.now
         → IsOneOf result (bursts_of ways h past p (Misses kind addr lock)) }
 {
     if lines.has_room() {
@@ -137,7 +148,8 @@ fn miss_burst(
 
 /// The state of the line that the operation names.
 fn state_named(lines: &Cached, op: Op) -> LineState
-    ensures { (h : Header) (ways : ℕ) (past : Trace) (p : ℕ) → CachedStands h ways past p lines.now → result ≡ state_named h past p op }
+    ensures { (h : Header) (ways : ℕ) (past : Trace) (p : ℕ) → CachedStands h ways past p lines.now
+        → result ≡ state_named h past p op }
 {
     match op.line() {
         Some(line) => lines.state(line),
@@ -152,7 +164,8 @@ pub fn burst_of(
     lines: &Cached,
     request: Request,
 ) -> Option<Asking>
-    ensures { (h : Header) (ways : ℕ) (past : Trace) (p : ℕ) → OnePortStands port.now h past p → IdentifiersStand h past p identifiers.now → CachedStands h ways past p lines.now
+    ensures { (h : Header) (ways : ℕ) (past : Trace) (p : ℕ) → OnePortStands port.now h past p
+        → IdentifiersStand h past p identifiers.now → CachedStands h ways past p lines.now
         → IsOneOf result (bursts_of ways h past p (asks request)) }
 {
     match request {
@@ -179,11 +192,19 @@ pub fn burst_for(
     lines: &Cached,
     op: Op,
 ) -> Option<Asking>
-    ensures asks { (h : Header) (ways : ℕ) (past : Trace) (p : ℕ) → OnePortStands port.now h past p → IdentifiersStand h past p identifiers.now → CachedStands h ways past p lines.now
+    ensures asks { (h : Header) (ways : ℕ) (past : Trace) (p : ℕ) → OnePortStands port.now h past p
+        → IdentifiersStand h past p identifiers.now → CachedStands h ways past p lines.now
         → IsOneOf result (bursts_of ways h past p (request_of op (state_named h past p op))) }
-    ensures step { (plan : Plan) (past : Trace) (p : ℕ) (asking : Asking) → OnePortStands port.now plan.header past p → IdentifiersStand plan.header past p identifiers.now → CachedStands plan.header plan.ways past p lines.now
-        → MayAsk plan past p op → result ≡ Some asking → is_step_by (14 ∷ []) plan past p (and_closing plan.header past p op (events_of asking)) ≡ true }
-    ensures none { (plan : Plan) (past : Trace) (p : ℕ) → OnePortStands port.now plan.header past p → IdentifiersStand plan.header past p identifiers.now → CachedStands plan.header plan.ways past p lines.now
+    ensures step { (plan : Plan) (past : Trace) (p : ℕ) (asking : Asking)
+        → OnePortStands port.now plan.header past p
+        → IdentifiersStand plan.header past p identifiers.now
+        → CachedStands plan.header plan.ways past p lines.now
+        → MayAsk plan past p op → result ≡ Some asking
+        → is_step_by (14 ∷ []) plan past p (and_closing plan.header past p op (events_of asking))
+        ≡ true }
+    ensures none { (plan : Plan) (past : Trace) (p : ℕ) → OnePortStands port.now plan.header past p
+        → IdentifiersStand plan.header past p identifiers.now
+        → CachedStands plan.header plan.ways past p lines.now
         → MayAsk plan past p op → result ≡ None → moves_of plan.ways plan.header past p op ≡ [] }
 {
     burst_of(
@@ -200,10 +221,16 @@ pub fn completion_burst(
     identifiers: &Identifiers,
     completions: &Completions,
 ) -> Option<Asking>
-    ensures burst { (h : Header) (past : Trace) (p : ℕ) → OnePortStands port.now h past p → IdentifiersStand h past p identifiers.now → CompletionsStand past p completions.now → is_ace h p ≡ true
+    ensures burst { (h : Header) (past : Trace) (p : ℕ) → OnePortStands port.now h past p
+        → IdentifiersStand h past p identifiers.now → CompletionsStand past p completions.now
+        → is_ace h p ≡ true
         → completion_bursts h past p ≡ only result }
-    ensures step { (plan : Plan) (past : Trace) (p : ℕ) (asking : Asking) → OnePortStands port.now plan.header past p → IdentifiersStand plan.header past p identifiers.now → CompletionsStand past p completions.now
-        → is_ace plan.header p ≡ true → result ≡ Some asking → is_step_by (14 ∷ []) plan past p (events_of asking) ≡ true }
+    ensures step { (plan : Plan) (past : Trace) (p : ℕ) (asking : Asking)
+        → OnePortStands port.now plan.header past p
+        → IdentifiersStand plan.header past p identifiers.now
+        → CompletionsStand past p completions.now
+        → is_ace plan.header p ≡ true → result ≡ Some asking
+        → is_step_by (14 ∷ []) plan past p (events_of asking) ≡ true }
 {
     if completions.owes() {
         read_burst(port, identifiers, ArKind::DvmComplete, 0, false)

@@ -22,12 +22,16 @@ use ace_model::Op;
 use ace_tables::{is_dirty, is_invalid};
 
 impl AcePort {
-    /// Asks for what the port's next operation needs, which doesn't wait and can't end without it, and ends the operation where it can end then.
+    /// Asks for what the port's next operation needs, which doesn't wait and can't end without it,
+    /// and ends the operation where it can end then.
     pub fn ask(&mut self, op: Op, out: &mut Burst) -> bool
         requires { out.old ≡ [] }
-        ensures turn { IsTrue result → (plan : Plan) (past : Trace) → IsGoingOn self.old plan past op → closing_of plan.header past self.old.port op ≡ []
-            → may_send plan.header past self.old.port ≡ false → IsAceTurn self.new plan past out.new }
-        ensures none { result ≡ false → (plan : Plan) (past : Trace) → IsGoingOn self.old plan past op → closing_of plan.header past self.old.port op ≡ []
+        ensures turn { IsTrue result → (plan : Plan) (past : Trace)
+            → IsGoingOn self.old plan past op → closing_of plan.header past self.old.port op ≡ []
+            → may_send plan.header past self.old.port ≡ false
+            → IsAceTurn self.new plan past out.new }
+        ensures none { result ≡ false → (plan : Plan) (past : Trace)
+            → IsGoingOn self.old plan past op → closing_of plan.header past self.old.port op ≡ []
             → moves_of plan.ways plan.header past self.old.port op ≡ [] }
         ensures unchanged { result ≡ false → (self.new ≡ self.old) × (out.new ≡ []) }
         ensures port { self.new.port ≡ self.old.port }
@@ -42,10 +46,12 @@ impl AcePort {
         true
     }
 
-    /// No identifier is free for what the port's next operation asks for, which can't end without it. It is asked only where a channel has
-    /// none left, and then looks at no outstanding transaction.
+    /// No identifier is free for what the port's next operation asks for, which can't end without
+    /// it. It is asked only where a channel has none left, and then looks at no outstanding
+    /// transaction.
     fn lacks_identifier(&self, op: Op) -> bool
-        ensures { IsTrue result → (plan : Plan) (past : Trace) → AcePortStands self.now plan past → next_operation plan past self.now.port ≡ Some op
+        ensures { IsTrue result → (plan : Plan) (past : Trace) → AcePortStands self.now plan past
+            → next_operation plan past self.now.port ≡ Some op
             → moves_of plan.ways plan.header past self.now.port op ≡ [] }
     {
         if !self.kept.identifiers.is_used_up() {
@@ -57,12 +63,16 @@ impl AcePort {
         }
     }
 
-    /// No identifier is free for a write of the line past the cache, nor to write the line back before it. A clean line is given up
-    /// without one.
+    /// No identifier is free for a write of the line past the cache, nor to write the line back
+    /// before it. A clean line is given up without one.
     fn cannot_write(&self, addr: u32) -> bool
-        ensures free { IsTrue result → (plan : Plan) (past : Trace) → AcePortStands self.now plan past → free_on plan.header past self.now.port Write ≡ None }
-        ensures held { IsTrue result → (plan : Plan) (past : Trace) → AcePortStands self.now plan past
-            → (is_invalid (state_of plan.header past self.now.port addr) || is_dirty (state_of plan.header past self.now.port addr)) ≡ true }
+        ensures free { IsTrue result → (plan : Plan) (past : Trace)
+            → AcePortStands self.now plan past
+            → free_on plan.header past self.now.port Write ≡ None }
+        ensures held { IsTrue result → (plan : Plan) (past : Trace)
+            → AcePortStands self.now plan past
+            → (is_invalid (state_of plan.header past self.now.port addr)
+            || is_dirty (state_of plan.header past self.now.port addr)) ≡ true }
     {
         if self.kept.identifiers.free_on(Channel::Write).is_some() {
             return false;
@@ -71,9 +81,11 @@ impl AcePort {
         is_invalid(st) || is_dirty(st)
     }
 
-    /// The port's next operation lacks an identifier for what it asks for. Of a write past the cache that is a look at its line.
+    /// The port's next operation lacks an identifier for what it asks for. Of a write past the
+    /// cache that is a look at its line.
     fn cannot_ask(&self, op: Op) -> bool
-        ensures { IsTrue result → (plan : Plan) (past : Trace) → AcePortStands self.now plan past → next_operation plan past self.now.port ≡ Some op
+        ensures { IsTrue result → (plan : Plan) (past : Trace) → AcePortStands self.now plan past
+            → next_operation plan past self.now.port ≡ Some op
             → moves_of plan.ways plan.header past self.now.port op ≡ [] }
     {
         match op {
@@ -83,13 +95,15 @@ impl AcePort {
         }
     }
 
-    /// Goes on, where no burst of write data is unsent: issues a DVM Complete that the port owes, else ends its next operation, or asks for
-    /// what that needs.
+    /// Goes on, where no burst of write data is unsent: issues a DVM Complete that the port owes,
+    /// else ends its next operation, or asks for what that needs.
     pub fn go_on(&mut self, out: &mut Burst) -> bool
         requires { out.old ≡ [] }
-        ensures turn { IsTrue result → (plan : Plan) (past : Trace) → AcePortStands self.old plan past → may_send plan.header past self.old.port ≡ false
+        ensures turn { IsTrue result → (plan : Plan) (past : Trace)
+            → AcePortStands self.old plan past → may_send plan.header past self.old.port ≡ false
             → IsAceTurn self.new plan past out.new }
-        ensures none { result ≡ false → (plan : Plan) (past : Trace) → AcePortStands self.old plan past
+        ensures none { result ≡ false → (plan : Plan) (past : Trace)
+            → AcePortStands self.old plan past
             → may_go_on plan.ways (next_operation plan past self.old.port) plan.header past self.old.port ≡ false }
         ensures unchanged { result ≡ false → (self.new ≡ self.old) × (out.new ≡ []) }
         ensures port { self.new.port ≡ self.old.port }

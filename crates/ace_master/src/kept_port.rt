@@ -20,9 +20,12 @@ use ace_portck::{OnePort, is_at};
 
 /// Hears the next event of the trace.
 pub fn note(port: &mut OnePort, identifiers: &mut Identifiers, event: &Event)
-    ensures kept { (plan : Plan) (past : Trace) → KeepsPort port.old plan past → IsLegal plan (event.now ∷ past) → KeepsPort port.new plan (event.now ∷ past) }
-    ensures identifiers { (plan : Plan) (past : Trace) → IsLegal plan (event.now ∷ past) → is_ace plan.header (port_of port.old) ≡ false
-        → IdentifiersStand plan.header past (port_of port.old) identifiers.old → IdentifiersStand plan.header (event.now ∷ past) (port_of port.old) identifiers.new }
+    ensures kept { (plan : Plan) (past : Trace) → KeepsPort port.old plan past
+        → IsLegal plan (event.now ∷ past) → KeepsPort port.new plan (event.now ∷ past) }
+    ensures identifiers { (plan : Plan) (past : Trace) → IsLegal plan (event.now ∷ past)
+        → is_ace plan.header (port_of port.old) ≡ false
+        → IdentifiersStand plan.header past (port_of port.old) identifiers.old
+        → IdentifiersStand plan.header (event.now ∷ past) (port_of port.old) identifiers.new }
     ensures port { port_of port.new ≡ port_of port.old }
 {
     if is_at(event, port.port()) {
@@ -34,9 +37,12 @@ pub fn note(port: &mut OnePort, identifiers: &mut Identifiers, event: &Event)
 /// Hears the events, and puts them in the burst.
 pub fn put(port: &mut OnePort, identifiers: &mut Identifiers, events: &[Event], out: &mut Burst)
     requires { length out.old + length events.now ≤ most_events }
-    ensures kept { (plan : Plan) (past : Trace) → KeepsPort port.old plan past → IsLegal plan (onto events.now past) → KeepsPort port.new plan (onto events.now past) }
-    ensures identifiers { (plan : Plan) (past : Trace) → IsLegal plan (onto events.now past) → is_ace plan.header (port_of port.old) ≡ false
-        → IdentifiersStand plan.header past (port_of port.old) identifiers.old → IdentifiersStand plan.header (onto events.now past) (port_of port.old) identifiers.new }
+    ensures kept { (plan : Plan) (past : Trace) → KeepsPort port.old plan past
+        → IsLegal plan (onto events.now past) → KeepsPort port.new plan (onto events.now past) }
+    ensures identifiers { (plan : Plan) (past : Trace) → IsLegal plan (onto events.now past)
+        → is_ace plan.header (port_of port.old) ≡ false
+        → IdentifiersStand plan.header past (port_of port.old) identifiers.old
+        → IdentifiersStand plan.header (onto events.now past) (port_of port.old) identifiers.new }
     ensures port { port_of port.new ≡ port_of port.old }
     ensures burst { out.new ≡ out.old ++ events.now }
 {
@@ -48,7 +54,8 @@ pub fn put(port: &mut OnePort, identifiers: &mut Identifiers, events: &[Event], 
 
 /// The OP of the port's next operation.
 pub fn retirement(port: &OnePort) -> Event
-    ensures { (plan : Plan) (past : Trace) → KeepsPort port.now plan past → retirement past (port_of port.now) Ok ≡ result ∷ [] }
+    ensures { (plan : Plan) (past : Trace) → KeepsPort port.now plan past
+        → retirement past (port_of port.now) Ok ≡ result ∷ [] }
 {
     Event::Op {
         port: port.port(),

@@ -30,7 +30,8 @@ use ace_model::{Op, PlanView, Transaction};
 use ace_portck::{OnePort, WriteData, issued};
 use std::alloc::Global;
 
-/// The master of an ACE-Lite port. It sends the burst of a write before it issues another, so one unsent burst is all it has.
+/// The master of an ACE-Lite port. It sends the burst of a write before it issues another, so one
+/// unsent burst is all it has.
 #[derive(Drop)]
 pub struct LiteMaster {
     port: OnePort,
@@ -46,8 +47,8 @@ pub struct LiteMaster {
 }
 
 impl LiteMaster {
-    /// The master of the port for a plan and the empty trace. It takes all the memory that it will need, also for the operations that it can be
-    /// given.
+    /// The master of the port for a plan and the empty trace. It takes all the memory that it will
+    /// need, also for the operations that it can be given.
     ///
     /// # Errors
     ///
@@ -75,8 +76,10 @@ impl LiteMaster {
 
     /// Puts the operation at the end of those of the port. It takes no memory.
     pub fn push(&mut self, op: Op)
-        requires { (plan : Plan) × (past : Trace) × LiteStands self.old plan past × IsRight (longer plan (record { port = port_of self.old; op = op })) }
-        ensures stands { (plan : Plan) (past : Trace) → LiteStands self.old plan past → IsRight (longer plan (record { port = port_of self.old; op = op }))
+        requires { (plan : Plan) × (past : Trace) × LiteStands self.old plan past
+            × IsRight (longer plan (record { port = port_of self.old; op = op })) }
+        ensures stands { (plan : Plan) (past : Trace) → LiteStands self.old plan past
+            → IsRight (longer plan (record { port = port_of self.old; op = op }))
             → LiteStands self.new (longer plan (record { port = port_of self.old; op = op })) past }
         ensures port { port_of self.new ≡ port_of self.old }
     {
@@ -85,21 +88,24 @@ impl LiteMaster {
 
     /// How many operations of the port retired.
     pub fn retired(&self) -> u16
-        ensures { (plan : Plan) (past : Trace) → LiteStands self.now plan past → result ≡ retired past (port_of self.now) }
+        ensures { (plan : Plan) (past : Trace) → LiteStands self.now plan past
+            → result ≡ retired past (port_of self.now) }
     {
         self.port.retired().min(0xffff) as u16
     }
 
     /// The port's next operation.
     fn next(&self) -> Option<Op>
-        ensures { (plan : Plan) (past : Trace) → LiteStands self.now plan past → result ≡ next_operation plan past (port_of self.now) }
+        ensures { (plan : Plan) (past : Trace) → LiteStands self.now plan past
+            → result ≡ next_operation plan past (port_of self.now) }
     {
         self.operations.get(self.port.retired() as usize)
     }
 
     /// What the port has issued is outstanding.
     fn is_out(&self, issued: Option<Transaction>) -> bool
-        ensures { (plan : Plan) (past : Trace) → LiteStands self.now plan past → is_none_or issued (λ x. x.port == port_of self.now) ≡ true
+        ensures { (plan : Plan) (past : Trace) → LiteStands self.now plan past
+            → is_none_or issued (λ x. x.port == port_of self.now) ≡ true
             → result ≡ is_some_and issued (is_outstanding plan.header past) }
     {
         let Some(x) = issued else {
@@ -121,14 +127,16 @@ impl LiteMaster {
     /// What it has issued isn't outstanding.
     fn is_done(&self) -> bool
         ensures { (plan : Plan) (past : Trace) → LiteStands self.now plan past
-            → result ≡ (not (is_some_and self.now.read (is_outstanding plan.header past)) && not (is_some_and self.now.write (is_outstanding plan.header past))) }
+            → result ≡ (not (is_some_and self.now.read (is_outstanding plan.header past))
+            && not (is_some_and self.now.write (is_outstanding plan.header past))) }
     {
         !self.is_out(self.read) && !self.is_out(self.write)
     }
 
     /// A transaction of the port on the line that the operation names is outstanding.
     fn is_line_busy(&self, op: Op) -> bool
-        ensures { (plan : Plan) (past : Trace) → LiteStands self.now plan past → result ≡ is_line_busy plan.header past (port_of self.now) op }
+        ensures { (plan : Plan) (past : Trace) → LiteStands self.now plan past
+            → result ≡ is_line_busy plan.header past (port_of self.now) op }
     {
         match op.line() {
             Some(line) => !self.port.is_line_free(line),
@@ -139,7 +147,8 @@ impl LiteMaster {
     /// Puts the burst of the write whose burst isn't sent.
     fn send(&mut self, carried: &WriteData, out: &mut Burst)
         requires { out.old ≡ [] }
-        ensures turn { (plan : Plan) (past : Trace) → LiteStands self.old plan past → self.old.unsent ≡ Some carried.now → IsTurn self.new plan past out.new }
+        ensures turn { (plan : Plan) (past : Trace) → LiteStands self.old plan past
+            → self.old.unsent ≡ Some carried.now → IsTurn self.new plan past out.new }
         ensures port { port_of self.new ≡ port_of self.old }
     {
         let burst = beats(self.port.port(), carried);
@@ -149,7 +158,8 @@ impl LiteMaster {
 
     /// The OP of the next operation.
     fn op(&self) -> Event
-        ensures { (plan : Plan) (past : Trace) → LiteStands self.now plan past → retirement past (port_of self.now) Ok ≡ result ∷ [] }
+        ensures { (plan : Plan) (past : Trace) → LiteStands self.now plan past
+            → retirement past (port_of self.now) Ok ≡ result ∷ [] }
     {
         retirement(&self.port)
     }
@@ -157,8 +167,11 @@ impl LiteMaster {
     /// Puts the OP of the next operation, which may retire.
     fn retire(&mut self, out: &mut Burst)
         requires { out.old ≡ [] }
-        ensures turn { (plan : Plan) (past : Trace) (op : Op) → LiteStands self.old plan past → self.old.unsent ≡ None
-            → next_operation plan past (port_of self.old) ≡ Some op → may_retire plan.header past (port_of self.old) op Ok ≡ true → IsTurn self.new plan past out.new }
+        ensures turn { (plan : Plan) (past : Trace) (op : Op) → LiteStands self.old plan past
+            → self.old.unsent ≡ None
+            → next_operation plan past (port_of self.old) ≡ Some op
+            → may_retire plan.header past (port_of self.old) op Ok ≡ true
+            → IsTurn self.new plan past out.new }
         ensures port { port_of self.new ≡ port_of self.old }
     {
         let op = self.op();
@@ -167,12 +180,15 @@ impl LiteMaster {
         self.write = None;
     }
 
-    /// Puts the AR of a read, if an identifier is free and no transaction of the port on the line is outstanding.
+    /// Puts the AR of a read, if an identifier is free and no transaction of the port on the line
+    /// is outstanding.
     fn ask_read(&mut self, op: Op, kind: ArKind, addr: u32, out: &mut Burst) -> bool
         requires { out.old ≡ [] }
-        ensures turn { IsTrue result → (plan : Plan) (past : Trace) → IsAsking self.old plan past op → lite_request op ≡ Some (Read kind addr)
+        ensures turn { IsTrue result → (plan : Plan) (past : Trace)
+            → IsAsking self.old plan past op → lite_request op ≡ Some (Read kind addr)
             → IsTurn self.new plan past out.new }
-        ensures none { result ≡ false → (plan : Plan) (past : Trace) → IsAsking self.old plan past op → lite_request op ≡ Some (Read kind addr)
+        ensures none { result ≡ false → (plan : Plan) (past : Trace)
+            → IsAsking self.old plan past op → lite_request op ≡ Some (Read kind addr)
             → is_enabled_by own_steps plan past (port_of self.old) ≡ false }
         ensures unchanged { result ≡ false → (self.new ≡ self.old) × (out.new ≡ []) }
         ensures port { port_of self.new ≡ port_of self.old }
@@ -189,13 +205,15 @@ impl LiteMaster {
         true
     }
 
-    /// Puts the AW of a write, if an identifier is free and no transaction of the port on the line is outstanding. A write that the operation doesn't wait for
-    /// retires it.
+    /// Puts the AW of a write, if an identifier is free and no transaction of the port on the line
+    /// is outstanding. A write that the operation doesn't wait for retires it.
     fn ask_write(&mut self, op: Op, kind: AwKind, addr: u32, out: &mut Burst) -> bool
         requires { out.old ≡ [] }
-        ensures turn { IsTrue result → (plan : Plan) (past : Trace) → IsAsking self.old plan past op → lite_request op ≡ Some (Write kind addr)
+        ensures turn { IsTrue result → (plan : Plan) (past : Trace)
+            → IsAsking self.old plan past op → lite_request op ≡ Some (Write kind addr)
             → IsTurn self.new plan past out.new }
-        ensures none { result ≡ false → (plan : Plan) (past : Trace) → IsAsking self.old plan past op → lite_request op ≡ Some (Write kind addr)
+        ensures none { result ≡ false → (plan : Plan) (past : Trace)
+            → IsAsking self.old plan past op → lite_request op ≡ Some (Write kind addr)
             → is_enabled_by own_steps plan past (port_of self.old) ≡ false }
         ensures unchanged { result ≡ false → (self.new ≡ self.old) × (out.new ≡ []) }
         ensures port { port_of self.new ≡ port_of self.old }
@@ -221,9 +239,11 @@ impl LiteMaster {
     /// Puts both halves of a barrier, if an identifier is free on both channels.
     fn ask_barrier(&mut self, bar: u8, out: &mut Burst) -> bool
         requires { out.old ≡ [] }
-        ensures turn { IsTrue result → (plan : Plan) (past : Trace) (op : Op) → IsAsking self.old plan past op → lite_request op ≡ Some (Barrier bar)
+        ensures turn { IsTrue result → (plan : Plan) (past : Trace) (op : Op)
+            → IsAsking self.old plan past op → lite_request op ≡ Some (Barrier bar)
             → IsTurn self.new plan past out.new }
-        ensures none { result ≡ false → (plan : Plan) (past : Trace) (op : Op) → IsAsking self.old plan past op → lite_request op ≡ Some (Barrier bar)
+        ensures none { result ≡ false → (plan : Plan) (past : Trace) (op : Op)
+            → IsAsking self.old plan past op → lite_request op ≡ Some (Barrier bar)
             → is_enabled_by own_steps plan past (port_of self.old) ≡ false }
         ensures unchanged { result ≡ false → (self.new ≡ self.old) × (out.new ≡ []) }
         ensures port { port_of self.new ≡ port_of self.old }
@@ -240,12 +260,14 @@ impl LiteMaster {
         true
     }
 
-    /// Puts what the operation asks for, unless it has to wait. Where no identifier is free, no outstanding transaction is looked at.
+    /// Puts what the operation asks for, unless it has to wait. Where no identifier is free, no
+    /// outstanding transaction is looked at.
     fn ask(&mut self, op: Op, out: &mut Burst) -> bool
         requires { out.old ≡ [] }
         ensures turn { IsTrue result → (plan : Plan) (past : Trace) → IsAsking self.old plan past op
             → IsTurn self.new plan past out.new }
-        ensures none { result ≡ false → (plan : Plan) (past : Trace) → IsAsking self.old plan past op
+        ensures none { result ≡ false → (plan : Plan) (past : Trace)
+            → IsAsking self.old plan past op
             → is_enabled_by own_steps plan past (port_of self.old) ≡ false }
         ensures unchanged { result ≡ false → (self.new ≡ self.old) × (out.new ≡ []) }
         ensures port { port_of self.new ≡ port_of self.old }
@@ -261,8 +283,10 @@ impl LiteMaster {
     /// Puts a step of the port, whose burst is sent.
     fn go_on(&mut self, out: &mut Burst) -> bool
         requires { out.old ≡ [] }
-        ensures turn { IsTrue result → (plan : Plan) (past : Trace) → LiteStands self.old plan past → self.old.unsent ≡ None → IsTurn self.new plan past out.new }
-        ensures none { result ≡ false → (plan : Plan) (past : Trace) → LiteStands self.old plan past → self.old.unsent ≡ None
+        ensures turn { IsTrue result → (plan : Plan) (past : Trace) → LiteStands self.old plan past
+            → self.old.unsent ≡ None → IsTurn self.new plan past out.new }
+        ensures none { result ≡ false → (plan : Plan) (past : Trace)
+            → LiteStands self.old plan past → self.old.unsent ≡ None
             → is_enabled_by own_steps plan past (port_of self.old) ≡ false }
         ensures unchanged { result ≡ false → (self.new ≡ self.old) × (out.new ≡ []) }
         ensures port { port_of self.new ≡ port_of self.old }

@@ -24,7 +24,8 @@ pub record RestStands (plan : Plan) (past : Trace) (p : ℕ) (s : Kept) : Type 0
   pub completions : CompletionsStand past p s.completions
   pub syncs : SyncsStand past p s.syncs
 
--- Each part says what there is to say of the port, after a trace for which an engine may stand, and there is room for all snoops of a plan.
+-- Each part says what there is to say of the port, after a trace for which an engine may stand, and
+-- there is room for all snoops of a plan.
 pub record KeptStands (plan : Plan) (past : Trace) (p : ℕ) (s : Kept) : Type 0 where
   pub legal : IsLegal plan past
   pub ace : is_ace plan.header p ≡ true

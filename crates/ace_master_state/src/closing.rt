@@ -1,4 +1,5 @@
-//! How the next operation of a port ends: by its OP, or by the load or store that it lacks and its OP.
+//! How the next operation of a port ends: by its OP, or by the load or store that it lacks and its
+//! OP.
 
 ghost use Rattle.std.specs.Prelude.{◌≡◌, ◌<◌, ◌∷◌, ℕ, [], true, false};
 ghost use Rattle.ace_model.specs.Copies.{copy_of, word_of};
@@ -78,7 +79,8 @@ pub fn gives_access(op: Op, st: LineState) -> bool
 impl Kept {
     /// The port's state of the line that the operation names; I where it names none.
     pub fn state_named(&self, op: Op) -> LineState
-        ensures { (plan : Plan) (past : Trace) (p : ℕ) → KeptStands plan past p self.now → result ≡ state_named plan.header past p op }
+        ensures { (plan : Plan) (past : Trace) (p : ℕ) → KeptStands plan past p self.now
+            → result ≡ state_named plan.header past p op }
     {
         match op.line() {
             Some(line) => self.lines.state(line),
@@ -88,7 +90,8 @@ impl Kept {
 
     /// A load of a word of a line that the port holds.
     fn load(&self, addr: u32, w: u8, x: bool) -> Event
-        ensures { (plan : Plan) (past : Trace) (p : ℕ) → KeptStands plan past p self.now → w < 4 → is_invalid (state_of plan.header past p addr) ≡ false
+        ensures { (plan : Plan) (past : Trace) (p : ℕ) → KeptStands plan past p self.now → w < 4
+            → is_invalid (state_of plan.header past p addr) ≡ false
             → result ≡ L p addr w x (word_of (copy_of past p addr) w) }
     {
         Event::L {
@@ -102,8 +105,10 @@ impl Kept {
 
     /// The load or store by which the port does the operation, of a line that gives access to it.
     pub fn access_of(&self, op: Op) -> Option<Event>
-        ensures { (plan : Plan) (past : Trace) (p : ℕ) → KeptStands plan past p self.now → has_right_fields op ≡ true
-            → gives_access op (state_named plan.header past p op) ≡ true → result ≡ access_of past p op }
+        ensures { (plan : Plan) (past : Trace) (p : ℕ) → KeptStands plan past p self.now
+            → has_right_fields op ≡ true
+            → gives_access op (state_named plan.header past p op) ≡ true
+            → result ≡ access_of past p op }
     {
         let port = self.port.port();
         let (addr, strobe, x, line) = match op {
@@ -125,14 +130,16 @@ impl Kept {
 
     /// How many operations of the port retired.
     pub fn retired(&self) -> u16
-        ensures { (plan : Plan) (past : Trace) (p : ℕ) → KeptStands plan past p self.now → result ≡ retired past p }
+        ensures { (plan : Plan) (past : Trace) (p : ℕ) → KeptStands plan past p self.now
+            → result ≡ retired past p }
     {
         self.port.retired().min(0xffff) as u16
     }
 
     /// The OP of the port's next operation.
     pub fn retirement(&self, res: Outcome) -> Event
-        ensures { (plan : Plan) (past : Trace) (p : ℕ) → KeptStands plan past p self.now → result ∷ [] ≡ retirement past p res }
+        ensures { (plan : Plan) (past : Trace) (p : ℕ) → KeptStands plan past p self.now
+            → result ∷ [] ≡ retirement past p res }
     {
         Event::Op {
             port: self.port.port(),
@@ -141,9 +148,11 @@ impl Kept {
         }
     }
 
-    /// What ends the port's next operation. `refused` says whether the interconnect refused an exclusive store of it.
+    /// What ends the port's next operation. `refused` says whether the interconnect refused an
+    /// exclusive store of it.
     pub fn closing_of(&self, op: Op, refused: bool) -> Closing
-        ensures { (plan : Plan) (past : Trace) (p : ℕ) → KeptStands plan past p self.now → has_right_fields op ≡ true → IsToldOf past p op refused
+        ensures { (plan : Plan) (past : Trace) (p : ℕ) → KeptStands plan past p self.now
+            → has_right_fields op ≡ true → IsToldOf past p op refused
             → events_of result ≡ closing_of plan.header past p op }
     {
         if self.may_retire(op, Outcome::Ok, refused) {
@@ -166,7 +175,8 @@ impl Kept {
 
     /// A transaction of the port on the line of the operation is outstanding.
     fn is_line_busy(&self, op: Op) -> bool
-        ensures { (plan : Plan) (past : Trace) (p : ℕ) → KeptStands plan past p self.now → result ≡ is_some_and (line_named op) (has_outstanding_on plan.header past p) }
+        ensures { (plan : Plan) (past : Trace) (p : ℕ) → KeptStands plan past p self.now
+            → result ≡ is_some_and (line_named op) (has_outstanding_on plan.header past p) }
     {
         match op.line() {
             Some(line) => !self.port.is_line_free(line),
@@ -176,7 +186,8 @@ impl Kept {
 
     /// The operation has to wait.
     pub fn is_waiting(&self, op: Op) -> bool
-        ensures { (plan : Plan) (past : Trace) (p : ℕ) → KeptStands plan past p self.now → result ≡ is_waiting plan.header past p op }
+        ensures { (plan : Plan) (past : Trace) (p : ℕ) → KeptStands plan past p self.now
+            → result ≡ is_waiting plan.header past p op }
     {
         self.segment.acts() != 0 || self.is_line_busy(op) || self.awaits_update()
     }

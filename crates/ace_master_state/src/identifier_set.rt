@@ -7,8 +7,8 @@ ghost use Rattle.ace_master_state.specs.Identifiers.{has};
 /// How many identifiers there are.
 const COUNT: u8 = 16;
 
-/// Some of the identifiers 0 to 15: bit i of the word says whether identifier i is one of them. So a
-/// look at the word finds the least of the others, or that there is none.
+/// Some of the identifiers 0 to 15: bit i of the word says whether identifier i is one of them. So
+/// a look at the word finds the least of the others, or that there is none.
 #[derive(Clone, Copy)]
 pub struct IdentifierSet {
     word: u16,

@@ -24,7 +24,8 @@ pub struct Identifiers {
 
 /// The identifier of the transaction, if there is one, is none of these.
 fn free(set: &mut IdentifierSet, ended: Option<Progress>)
-    ensures { (i : ℕ) → i < 16 → has set.new i ≡ (has set.old i && not (is_some_and ended (λ x. x.transaction.id == i))) }
+    ensures { (i : ℕ) → i < 16
+        → has set.new i ≡ (has set.old i && not (is_some_and ended (λ x. x.transaction.id == i))) }
 {
     if let Some(x) = ended {
         set.remove(x.transaction.id);
@@ -44,7 +45,8 @@ impl Identifiers {
 
     /// Those on the channel.
     fn on(&self, chan: Channel) -> IdentifierSet
-        ensures { (h : Header) (past : Trace) (p : ℕ) → IdentifiersStand h past p self.now → AreTaken h past p chan result }
+        ensures { (h : Header) (past : Trace) (p : ℕ) → IdentifiersStand h past p self.now
+            → AreTaken h past p chan result }
     {
         match chan {
             Channel::Read => self.reads,
@@ -54,14 +56,16 @@ impl Identifiers {
 
     /// The least identifier that is free on the channel.
     pub fn free_on(&self, chan: Channel) -> Option<u8>
-        ensures { (h : Header) (past : Trace) (p : ℕ) → IdentifiersStand h past p self.now → result ≡ free_on h past p chan }
+        ensures { (h : Header) (past : Trace) (p : ℕ) → IdentifiersStand h past p self.now
+            → result ≡ free_on h past p chan }
     {
         self.on(chan).least_other()
     }
 
     /// The least other identifier that is free on the channel.
     pub fn free_on_beside(&self, chan: Channel, taken: u8) -> Option<u8>
-        ensures { (h : Header) (past : Trace) (p : ℕ) → IdentifiersStand h past p self.now → result ≡ least_below identifiers (λ i. not (taken == i) && is_free h past p chan i) }
+        ensures { (h : Header) (past : Trace) (p : ℕ) → IdentifiersStand h past p self.now
+            → result ≡ least_below identifiers (λ i. not (taken == i) && is_free h past p chan i) }
     {
         let mut used = self.on(chan);
         used.add(taken);
@@ -70,22 +74,26 @@ impl Identifiers {
 
     /// The least identifier that is free on both channels.
     pub fn free_on_both(&self) -> Option<u8>
-        ensures { (h : Header) (past : Trace) (p : ℕ) → IdentifiersStand h past p self.now → result ≡ free_on_both h past p }
+        ensures { (h : Header) (past : Trace) (p : ℕ) → IdentifiersStand h past p self.now
+            → result ≡ free_on_both h past p }
     {
         self.reads.or(self.writes).least_other()
     }
 
     /// No identifier is free on one of the channels.
     pub fn is_used_up(&self) -> bool
-        ensures { (h : Header) (past : Trace) (p : ℕ) → IdentifiersStand h past p self.now → result ≡ (is_none (free_on h past p Read) || is_none (free_on h past p Write)) }
+        ensures { (h : Header) (past : Trace) (p : ℕ) → IdentifiersStand h past p self.now
+            → result ≡ (is_none (free_on h past p Read) || is_none (free_on h past p Write)) }
     {
         self.free_on(Channel::Read).is_none() || self.free_on(Channel::Write).is_none()
     }
 
     /// Hears the next event of the trace, one of the port, which ends no transaction.
     fn begin(&mut self, event: &Event)
-        ensures { (h : Header) (past : Trace) (p : ℕ) → is_at_port p event.now ≡ true → ended h past event.now ≡ None
-            → IdentifiersStand h past p self.old → IdentifiersStand h (event.now ∷ past) p self.new }
+        ensures { (h : Header) (past : Trace) (p : ℕ) → is_at_port p event.now ≡ true
+            → ended h past event.now ≡ None
+            → IdentifiersStand h past p self.old
+            → IdentifiersStand h (event.now ∷ past) p self.new }
     {
         match *event {
             Event::Ar { id, .. } => self.reads.add(id),
@@ -97,8 +105,10 @@ impl Identifiers {
     /// Hears the next event of the trace, which is one of the port, an ACE port. `port` is what is
     /// kept of it before the event.
     pub fn hear(&mut self, port: &OnePort, event: &Event)
-        ensures { (h : Header) (past : Trace) (p : ℕ) → OnePortStands port.now h past p → is_ace h p ≡ true → is_at_port p event.now ≡ true
-            → IdentifiersStand h past p self.old → IdentifiersStand h (event.now ∷ past) p self.new }
+        ensures { (h : Header) (past : Trace) (p : ℕ) → OnePortStands port.now h past p
+            → is_ace h p ≡ true → is_at_port p event.now ≡ true
+            → IdentifiersStand h past p self.old
+            → IdentifiersStand h (event.now ∷ past) p self.new }
     {
         match *event {
             Event::Rk { .. } => free(&mut self.reads, port.acknowledged(Channel::Read)),
@@ -109,8 +119,10 @@ impl Identifiers {
 
     /// Hears the next event of the trace, which is one of the port, an ACE-Lite port.
     pub fn hear_lite(&mut self, event: &Event)
-        ensures { (h : Header) (past : Trace) (p : ℕ) → IsAccepted h (event.now ∷ past) → is_ace h p ≡ false → is_at_port p event.now ≡ true
-            → IdentifiersStand h past p self.old → IdentifiersStand h (event.now ∷ past) p self.new }
+        ensures { (h : Header) (past : Trace) (p : ℕ) → IsAccepted h (event.now ∷ past)
+            → is_ace h p ≡ false → is_at_port p event.now ≡ true
+            → IdentifiersStand h past p self.old
+            → IdentifiersStand h (event.now ∷ past) p self.new }
     {
         match *event {
             Event::R { id, last, .. } if last => self.reads.remove(id),

@@ -36,7 +36,8 @@ pub struct Kept {
 }
 
 impl Kept {
-    /// What is kept of the port of a plan, an ACE port, and the empty trace. It takes all the memory that it will need.
+    /// What is kept of the port of a plan, an ACE port, and the empty trace. It takes all the
+    /// memory that it will need.
     ///
     /// # Errors
     ///
@@ -101,8 +102,10 @@ impl Kept {
     /// Hears the next event of the trace.
     #[inline(always)]
     pub fn hear(&mut self, event: &Event)
-        ensures { (plan : Plan) (past : Trace) (p : ℕ) → KeptStands plan past p self.old → IsLegal plan (event.now ∷ past)
-            → (port_of event.now ≡ Some p → HasLowId event.now) → KeptStands plan (event.now ∷ past) p self.new }
+        ensures { (plan : Plan) (past : Trace) (p : ℕ) → KeptStands plan past p self.old
+            → IsLegal plan (event.now ∷ past)
+            → (port_of event.now ≡ Some p → HasLowId event.now)
+            → KeptStands plan (event.now ∷ past) p self.new }
     {
         self.note(event);
         self.port.hear(event);

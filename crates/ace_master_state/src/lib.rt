@@ -1,5 +1,6 @@
-//! What the master of an ACE port keeps of the trace of a run: the lines that it holds, its monitor, what it has done for its next operation,
-//! the identifiers that it uses and the DVM Completes that it owes; and what its operations ask for.
+//! What the master of an ACE port keeps of the trace of a run: the lines that it holds, its
+//! monitor, what it has done for its next operation, the identifiers that it uses and the DVM
+//! Completes that it owes; and what its operations ask for.
 #![tactic(auto)]
 
 mod ace_requests;
