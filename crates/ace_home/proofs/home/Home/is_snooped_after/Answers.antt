@@ -1,7 +1,7 @@
 use Rattle.std.proofs.Common.{◌∷◌, sym, ap, ◌∙◌}
 use Rattle.ace_event.specs.declared.event.Event.{Event}
 use Rattle.ace_lineck.specs.Waiting.{has_unsnooped}
-use Rattle.ace_home.proofs.HeldUp.{answer-snooped, data-snooped, marked-snooped, some-marked}
+use Rattle.ace_home.proofs.HeldUp.{answer-snooped, data-snooped, marked-snooped, memory-snooped, some-marked}
 use Rattle.ace_home.proofs.home.Home.is_snooped_after.Goals as goal
 
 pub returns-in-Ac : goal.returns-in-Ac
@@ -20,3 +20,10 @@ returns-in-Cd c = λ marked h past s before.
     let m = some-marked _ (sym c.is_some-in-Cd.ensures ∙ marked) in
     ap (λ (e : Event). has_unsnooped h (e ∷ past) line) c.in-Cd.is ∙ data-snooped h past c.in-Cd.port c.in-Cd.last c.in-Cd.word line
     ∙ marked-snooped h past line m.0 (before m.0 (sym c.of-in-Cd.ensures ∙ m.1))
+
+pub returns-in-M : goal.returns-in-M
+returns-in-M c = λ marked h past s before.
+    let line = c.args.line in
+    let e = c.in-M in
+    let m = some-marked _ (sym c.is_some-in-M.ensures ∙ marked) in
+    ap (λ (e : Event). has_unsnooped h (e ∷ past) line) e.is ∙ memory-snooped h past e.port e.chan e.id e.line line (marked-snooped h past line m.0 (before m.0 (sym c.of-in-M.ensures ∙ m.1)))
