@@ -19,7 +19,7 @@ use Rattle.ace_model.specs.Grants.{granted, has_grant, has_passed_data, has_shar
 use Rattle.ace_model.specs.Kinds.{is_read_not_shared_dirty, takes_passed_data}
 use Rattle.ace_model.specs.Trace.{Trace, is_some_and}
 use Rattle.ace_model.specs.Snoops.{snoops_a_line}
-use Rattle.ace_model.specs.Transactions.{ended, is_line, is_read, read_kind, transfers}
+use Rattle.ace_model.specs.Transactions.{ended, is_line, is_read, read_kind, transfers, without}
 use Rattle.ace_model.specs.Writes.{has_memory_write}
 use Rattle.ace_model.specs.declared.snoops.Snoop.{Snoop}
 use Rattle.ace_portck.specs.declared.target.Progress.{Progress}
@@ -200,7 +200,21 @@ answer-snooped h past p resp st l = refl
 pub data-snooped : (h : Header) (past : Trace) (p : ℕ) (last : Bool) (word l : ℕ) → has_unsnooped h (Cd p last word ∷ past) l ≡ has_unsnooped h past l
 data-snooped h past p last word l = refl
 
--- and an M leaves no more to snoop than there was
+-- and the end of a transaction leaves no more to snoop than there was
+without-fewer : (z g : Option Transaction) (test : Transaction → Bool) → is_some_and g test ≡ false → is_some_and (without z g) test ≡ false
+without-fewer None g test f = f
+without-fewer (Some y) None test f = refl
+without-fewer (Some y) (Some w) test f = elim (cases_Bool (w.place == y.place)) [ inl t ↦ rw t refl | inr n ↦ rw n f ]
+
+pub response-snooped : (h : Header) (past : Trace) (p i resp l : ℕ) → has_unsnooped h past l ≡ false → has_unsnooped h (B p i resp ∷ past) l ≡ false
+response-snooped h past p i resp l none =
+    without-fewer (ended h past (B p i resp)) (granted h past l) (λ x. not (is_begun past x) && list_any (is_unsnooped_beside h past l x) (ports_below h.ports)) none
+
+pub acknowledge-snooped : (h : Header) (past : Trace) (p : ℕ) (st : LineState) (l : ℕ) → has_unsnooped h past l ≡ false → has_unsnooped h (Wk p st ∷ past) l ≡ false
+acknowledge-snooped h past p st l none =
+    without-fewer (ended h past (Wk p st)) (granted h past l) (λ x. not (is_begun past x) && list_any (is_unsnooped_beside h past l x) (ports_below h.ports)) none
+
+-- and so does an M
 begun-written : (past : Trace) (p : ℕ) (c : Channel) (i : ℕ) (line : Line) (x : Transaction) → is_begun past x ≡ true → is_begun (M p c i line ∷ past) x ≡ true
 begun-written past p c i line x begun = elim (cases_Bool (is_read x.chan)) [
   | inl reads ↦ rw reads (sym (ap (λ b. if b then not (transfers past x.port x.id == 0) else has_memory_write past x.port x.chan x.id) reads) ∙ begun)

@@ -16,13 +16,13 @@ use Rattle.ace_model.specs.Barriers.{Pair, barriers, is_barrier_of, is_pair_comp
 use Rattle.ace_model.specs.Grants.{granted, has_grant}
 use Rattle.ace_model.specs.Kinds.{is_evict, is_granted_write}
 use Rattle.ace_model.specs.OrderRules.{is_past_barriers}
-use Rattle.ace_model.specs.Progress.{each_issued, evicts, has_had, is_completed, is_grant, is_ordered, is_write_of_memory, served_by, updates_memory}
+use Rattle.ace_model.specs.Progress.{evicts, has_had, is_completed, is_grant, is_ordered, is_write_of_memory, served_by, updates_memory}
 use Rattle.ace_model.specs.Trace.{Trace, implies, is_some_and, option_filter}
-use Rattle.ace_model.specs.Transactions.{is_on, is_outstanding, is_read, is_transaction, issued, outstanding, takes_grant, write_kind}
+use Rattle.ace_model.specs.Transactions.{is_on, is_outstanding, is_read, is_transaction, issued, takes_grant, write_kind}
 use Rattle.ace_model.proofs.Barriers.OrderPoints.{completed-ordered}
 use Rattle.ace_model.proofs.General.Booleans.{implies-at}
 use Rattle.ace_model.proofs.General.Lists.{list_all-at, slice_get-more}
-use Rattle.ace_model.proofs.General.Options.{Some-injective, is_some_and-is, option_filter-is}
+use Rattle.ace_model.proofs.General.Options.{Some-injective, option_filter-is}
 use Rattle.ace_model.proofs.GrantLooks.Had.{granted_had, takes-line}
 use Rattle.ace_model.proofs.Grants.Granted.{granted_write, updates_ungranted}
 use Rattle.ace_model.proofs.Outstanding.Names.{grant_by_name}

@@ -63,7 +63,8 @@ pub fn moved_line(event: &Event, ports: &PortCheck) -> Option<u32>
 
 impl Home {
     /// No port is left to snoop for the granted transaction of the line after the event: its last
-    /// snoop, an answer, or an M, since these leave no more to snoop than there were.
+    /// snoop, an answer, or what comes of a memory update, since these leave no more to snoop than
+    /// there were.
     fn is_snooped_after(&self, event: &Event, line: u32) -> bool
         ensures { result ≡ true → (h : Headers) (past : Trace)
             → SharesStand self.now.shares h (event.now ∷ past)
@@ -74,8 +75,21 @@ impl Home {
             Event::Ac { .. } => self.is_snooped(line),
             Event::Cr { .. } => self.marks.of(line).is_some(),
             Event::Cd { .. } => self.marks.of(line).is_some(),
-            Event::M { .. } => self.marks.of(line).is_some(),
+            Event::M { chan, .. } => self.is_snooped_after_write(chan, line),
+            Event::B { .. } => self.is_marked_held_up(line),
+            Event::Wk { .. } => self.is_marked_held_up(line),
             _ => false,
+        }
+    }
+
+    /// The line has a mark that it may keep with an M: any, where the M is of a read, and else only
+    /// that it is held up, as another transaction begins with its M.
+    fn is_snooped_after_write(&self, chan: Channel, line: u32) -> bool
+        ensures { result ≡ true → (m : Marks) × (mark_of self.now.marks line ≡ Some m) }
+    {
+        match chan {
+            Channel::Read => self.marks.of(line).is_some(),
+            Channel::Write => self.is_marked_held_up(line),
         }
     }
 

@@ -105,7 +105,7 @@ impl Home {
 
     /// The line is marked as held up.
     #[inline(always)]
-    fn is_marked_held_up(&self, line: u32) -> bool
+    pub(crate) fn is_marked_held_up(&self, line: u32) -> bool
         ensures { result ≡ true → mark_of self.now.marks line ≡ Some HeldUp }
     {
         match self.marks.of(line) {
@@ -253,22 +253,28 @@ impl Home {
         ensures own { port < 32 → (plan : Plan) (past : Trace) (x : Issued)
             → HomeStands self.old plan past → IsOf plan.header past port x
             → may_name self.new.resting x.addr port ≡ true }
+        ensures rest { self.new ≡ record self.old { resting = self.new.resting } }
     {
         let ports = self.shares.ports();
         know_lines(&mut self.resting, port, ports.reads(port));
         know_lines(&mut self.resting, port, ports.writes(port));
     }
 
-    /// The port is known beside the lines of its transactions, and is at rest, if it may be.
+    /// The port is known beside the line.
+    fn know_line(&mut self, port: u8, line: u32)
+        ensures { (plan : Plan) (past : Trace) → HomeStands self.old plan past
+            → HomeStands self.new plan past }
+    {
+        self.resting.know(port, line);
+    }
+
+    /// The port is at rest, if it may be, and known beside the lines of its transactions then.
     fn look(&mut self, port: u8)
         ensures { (plan : Plan) (past : Trace) → HomeStands self.old plan past
             → HomeStands self.new plan past }
     {
-        if port >= 32 {
-            return;
-        }
-        self.know(port);
-        if self.may_rest(port) {
+        if port < 32 && self.may_rest(port) {
+            self.know(port);
             self.resting.add(port);
         }
     }
@@ -362,7 +368,10 @@ impl Home {
             → HomeStands self.new plan past }
     {
         match *event {
-            Event::Ar { port, .. } | Event::Aw { port, .. } => self.look(port),
+            Event::Ar { port, addr, .. } | Event::Aw { port, addr, .. } => {
+                self.know_line(port, addr);
+                self.look(port);
+            }
             Event::Rk { port, .. } | Event::Wk { port, .. } => self.look_at_end(port, line),
             Event::B { port, .. }
             | Event::R {
@@ -373,7 +382,11 @@ impl Home {
                 self.look_at_end(port, line);
             },
             Event::G { port, .. } => self.look_at_grant(port, line),
-            Event::Ac { .. } | Event::M { .. } => self.look_at_holder(line),
+            Event::Ac { .. }
+            | Event::M {
+                chan: Channel::Read,
+                ..
+            } => self.look_at_holder(line),
             _ => {}
         }
     }
