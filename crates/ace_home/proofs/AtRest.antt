@@ -28,11 +28,12 @@ use Rattle.ace_home.specs.Among.{PortSets}
 use Rattle.ace_home.specs.declared.resting.RestingPorts.{RestingPorts}
 use Rattle.ace_home.specs.Home.{AreResting, IsOf, grant_of}
 use Rattle.ace_home.specs.Marks.{IsAsMarked, IsStill, mark_of}
-use Rattle.ace_home.specs.Resting.{HasToWait, IsKeptOff, IsUnbegun, may_end, moves_own}
+use Rattle.ace_home.specs.Resting.{GoesLater, HasToWait, IsKeptOff, IsUnbegun, may_end, moves_own}
 use Rattle.ace_home.specs.Services.{TakesNoneBelow, all_steps}
-use Rattle.ace_home.proofs.FirstEvents.{grant-not-kept}
+use Rattle.ace_home.proofs.FirstEvents.{grant-later, grant-not-kept}
 use Rattle.ace_home.proofs.Firsts.{ungranted-takes-none}
 use Rattle.ace_home.proofs.HeldUp.{held-unbegun, line-or-not}
+use Rattle.ace_home.proofs.Later.{later-stays}
 use Rattle.ace_home.proofs.Outstanding.{granted-line, of-at, of-port, out-own}
 use Rattle.ace_home.proofs.Untouched.{begins-own, none-ends, same-count-of, same-grant-of}
 use Rattle.ace_home.proofs.Waiting.{kept-free, kept-takes}
@@ -54,13 +55,23 @@ module _ (among : PortSets) (h : Header) (past : Trace) (a : IsAccepted h past) 
       let free = kept-free h past a p x o kept in
       let bad : false ≡ true = sym (ap (λ v. is_some v) free) ∙ w.taken in cc)))
 
+  goes-later : GoesLater h past x → TakesNoneBelow among all_steps h past x
+  goes-later w =
+      ungranted-takes-none among h past x a p o w.waits (elim (cases_Bool (is_kept h past (grant_of x))) [
+        | inl kept ↦ grant-later h past a p x o kept w.later
+        | inr none ↦ grant-not-kept h past a p x o none
+      ])
+
   -- where each line is as it is marked
   pub waiting-takes-none : (m : MarkedLines) → ((l : ℕ) (k : Mark) → mark_of m l ≡ Some k → IsAsMarked h past l k) → HasToWait h past m x → TakesNoneBelow among all_steps h past x
   waiting-takes-none m marks w = elim w [
     | inl f ↦ idle f
     | inr later ↦ elim later [
       | inl off ↦ kept-off off
-      | inr u ↦ held-unbegun among h past a p x o (marks x.addr HeldUp u.held) u.had u.first u.unfailed
+      | inr last ↦ elim last [
+        | inl behind ↦ goes-later behind
+        | inr u ↦ held-unbegun among h past a p x o (marks x.addr HeldUp u.held) u.had u.first u.unfailed
+      ]
     ]
   ]
 
@@ -143,6 +154,16 @@ module _ (h : Header) (past : Trace) (e : Event) (a : IsAccepted h (e ∷ past))
           taken = ap (λ v. is_some v) (stays-granted x.addr y.0 lasts y.1);
         }
 
+    own-grant : has_grant past x.port x.chan x.id ≡ false → has_grant (e ∷ past) x.port x.chan x.id ≡ false
+    own-grant none = same-grant-of h past e a x out own-port ∙ none
+
+    -- behind an older one it stays so, or is kept off
+    still-later : (n : MarkedLines) → GoesLater h past x → HasToWait h (e ∷ past) n x
+    still-later n w = elim (later-stays h past e x a w.later) [
+      | inl later ↦ inr (inr (inl (record { waits = own-grant w.waits; later = later })))
+      | inr taken ↦ inr (inl (record { waits = own-grant w.waits; taken = taken }))
+    ]
+
     unfailed-stays : granted h past x.addr ≡ Some x → granted h (e ∷ past) x.addr ≡ Some x → has_failed (e ∷ past) x ≡ has_failed past x
     unfailed-stays was is = elim (granted_before h past e x.addr x is) [
       | inl s ↦ failed_stays h past e a x.addr x s
@@ -165,7 +186,10 @@ module _ (h : Header) (past : Trace) (e : Event) (a : IsAccepted h (e ∷ past))
       | inl f ↦ inl f
       | inr later ↦ elim later [
         | inl off ↦ inr (inl (still-off off))
-        | inr u ↦ inr (inr (still-unbegun m n held u))
+        | inr last ↦ elim last [
+          | inl behind ↦ still-later n behind
+          | inr u ↦ inr (inr (inr (still-unbegun m n held u)))
+        ]
       ]
     ]
 

@@ -42,6 +42,7 @@ use Rattle.ace_portck.specs.Targets.{data_of_write as data_sent}
 use Rattle.ace_lineck.specs.Waiting.{has_unsnooped, is_answering}
 use Rattle.ace_lineck.proofs.WaitingLooks.{answering-transfer, answering-undone, snooped-snoop, some-found}
 use Rattle.ace_home.specs.Home.{IsOf, grant_of}
+use Rattle.ace_home.specs.Marks.{is_stuck, is_stuck_read}
 use Rattle.ace_home.specs.Services.{first_kept, has_snoop, if_kept}
 use Rattle.ace_home.proofs.Outstanding.{granted-line, out-own, ungranted}
 use Rattle.ace_home.proofs.Waiting.{had-not-kept, kept-takes}
@@ -150,6 +151,12 @@ module _ (h : Header) (past : Trace) (a : IsAccepted h past) (p : ℕ) (x : Tran
   pub without-passed : has_passed_data h past x ≡ false → first_kept h past (passed_burst h past x) ≡ None
   without-passed f =
       ap (λ b. first_kept h past (if b then memory_write h past x else [])) (none-if (has_passed_data h past x) (is_read x.chan) (not (takes_dirt h past x)) f)
+
+  -- none that it can't take
+  pub passed-unstuck : has_grant past x.port x.chan x.id ≡ true → is_stuck h past x.addr ≡ false → first_kept h past (passed_burst h past x) ≡ None
+  passed-unstuck had none =
+      let f = sym (ap (λ o. is_some_and o (is_stuck_read h past)) (granted-line h past a p x o had)) ∙ none in
+      ap (λ b. first_kept h past (if b then memory_write h past x else [])) f
 
   pub passed-ungranted : has_grant past x.port x.chan x.id ≡ false → first_kept h past (passed_burst h past x) ≡ None
   passed-ungranted none = without-passed (no-passed (ungranted h past a p x o none))

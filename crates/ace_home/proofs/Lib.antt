@@ -28,5 +28,7 @@ pub mod HeldUp
 pub mod PortBits
 -- What an event leaves as it is.
 pub mod Untouched
+-- Transactions behind older ones.
+pub mod Later
 -- Ports at rest.
 pub mod AtRest

@@ -10,6 +10,7 @@ use Rattle.ace_model.specs.Exclusives.{has_failed}
 use Rattle.ace_model.specs.Grants.{granted, has_grant}
 use Rattle.ace_model.specs.Trace.{Trace, is_some_and}
 use Rattle.ace_model.specs.Transactions.{is_ace, takes_grant, transfers}
+use Rattle.ace_runs.specs.LineSteps.{is_first_to_wait}
 use Rattle.ace_home.specs.declared.marks.Mark.TheVariants.{HeldUp}
 use Rattle.ace_home.specs.declared.marks.MarkedLines.{MarkedLines}
 use Rattle.ace_home.specs.declared.port_set.PortSet.{PortSet}
@@ -37,6 +38,11 @@ pub record IsKeptOff (h : Header) (past : Trace) (x : Transaction) : Type 0 wher
   pub waits : has_grant past x.port x.chan x.id ≡ false
   pub taken : is_some (granted h past x.addr) ≡ true
 
+-- The transaction has had no G, and an older one that waits for its line goes first.
+pub record GoesLater (h : Header) (past : Trace) (x : Transaction) : Type 0 where
+  pub waits : has_grant past x.port x.chan x.id ≡ false
+  pub later : is_first_to_wait h past x ≡ false
+
 -- It was granted its line, which is marked as held up, and hasn't begun; it is no exclusive store that
 -- failed, which begins all the same.
 pub record IsUnbegun (m : MarkedLines) (past : Trace) (x : Transaction) : Type 0 where
@@ -46,9 +52,11 @@ pub record IsUnbegun (m : MarkedLines) (past : Trace) (x : Transaction) : Type 0
   pub unfailed : has_failed past x ≡ false
 
 -- The home can do nothing for the outstanding transaction: it isn't of a kind that takes a grant, or
--- it waits for the line, or it waits for answers to snoops.
+-- it waits for the line, which is granted to another one or goes to an older one first, or it waits
+-- for answers to snoops.
 abbrev pub HasToWait : Header → Trace → MarkedLines → Transaction → Type 0
-HasToWait h past m x = (takes_grant x ≡ false) ⊎ (IsKeptOff h past x ⊎ IsUnbegun m past x)
+HasToWait h past m x =
+    (takes_grant x ≡ false) ⊎ (IsKeptOff h past x ⊎ (GoesLater h past x ⊎ IsUnbegun m past x))
 
 -- It has to wait, and its port is known beside its line.
 pub record WaitsAt (h : Header) (past : Trace) (m : MarkedLines) (s : RestingPorts) (p : ℕ)

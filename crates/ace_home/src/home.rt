@@ -159,12 +159,11 @@ impl Home {
             → HomeStands self.new plan (event.now ∷ past) }
     {
         let line = moved_line(event, self.shares.ports());
-        let rested = self.begins_at_rest(event);
         rouse(&mut self.resting, &self.header, event, line);
         self.shares.hear(event);
         let held = self.renew(event, line);
         self.rouse_holder(held);
-        self.look_after(event, line, rested);
+        self.look_after(event, line);
     }
 
     /// Hears the event, and puts it in the burst, if that isn't full.

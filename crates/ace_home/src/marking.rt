@@ -8,7 +8,7 @@ ghost use Rattle.ace_model.specs.Trace.{Trace};
 ghost use Rattle.ace_portck.specs.Stands.{Stands as PortsTell};
 ghost use Rattle.ace_check.specs.Shares.{SharesStand};
 ghost use Rattle.ace_lineck.specs.Waiting.{has_unsnooped};
-ghost use Rattle.ace_home.specs.Marks.{IsAsMarked, IsStill, mark_of};
+ghost use Rattle.ace_home.specs.Marks.{IsAsMarked, IsStill, is_stuck, mark_of};
 ghost use Rattle.ace_home.specs.declared.marks.Mark.{Mark as Marks};
 ghost use Rattle.ace_home.specs.declared.marks.Mark.TheVariants.{HeldUp};
 
@@ -63,7 +63,8 @@ pub fn moved_line(event: &Event, ports: &PortCheck) -> Option<u32>
 
 impl Home {
     /// No port is left to snoop for the granted transaction of the line after the event: its last
-    /// snoop, or an answer, since answers leave that as it is.
+    /// snoop, an answer, or what comes of a memory update, since these leave no more to snoop than
+    /// there were.
     fn is_snooped_after(&self, event: &Event, line: u32) -> bool
         ensures { result ≡ true → (h : Headers) (past : Trace)
             → SharesStand self.now.shares h (event.now ∷ past)
@@ -74,7 +75,21 @@ impl Home {
             Event::Ac { .. } => self.is_snooped(line),
             Event::Cr { .. } => self.marks.of(line).is_some(),
             Event::Cd { .. } => self.marks.of(line).is_some(),
+            Event::M { chan, .. } => self.is_snooped_after_write(chan, line),
+            Event::B { .. } => self.is_marked_held_up(line),
+            Event::Wk { .. } => self.is_marked_held_up(line),
             _ => false,
+        }
+    }
+
+    /// The line has a mark that it may keep with an M: any, where the M is of a read, and else only
+    /// that it is held up, as another transaction begins with its M.
+    fn is_snooped_after_write(&self, chan: Channel, line: u32) -> bool
+        ensures { result ≡ true → (m : Marks) × (mark_of self.now.marks line ≡ Some m) }
+    {
+        match chan {
+            Channel::Read => self.marks.of(line).is_some(),
+            Channel::Write => self.is_marked_held_up(line),
         }
     }
 
@@ -87,6 +102,25 @@ impl Home {
         !lines.has_unsnooped(lines.place(Some(line)))
     }
 
+    /// The granted transaction of the line is a read with passed data that it can't take.
+    fn is_stuck(&self, line: u32) -> bool
+        ensures { result ≡ false → (h : Headers) (past : Trace)
+            → SharesStand self.now.shares h past → is_stuck h past line ≡ false }
+    {
+        let lines = self.shares.lines();
+        let place = lines.place(Some(line));
+        if !lines.has_passed_data(place) {
+            return false;
+        }
+        match lines.granted_transaction(place) {
+            None => false,
+            Some(x) => match x.chan {
+                Channel::Read => !lines.can_take_passed_data(place, &x),
+                Channel::Write => false,
+            },
+        }
+    }
+
     /// The mark of the line, where no port is left to snoop for its granted transaction.
     fn mark_of(&self, line: u32) -> Mark
         ensures { (h : Headers) (past : Trace) → SharesStand self.now.shares h past
@@ -97,7 +131,7 @@ impl Home {
         if !lines.is_answering(place) {
             return Mark::Snooped;
         }
-        if lines.has_passed_data(place) {
+        if self.is_stuck(line) {
             return Mark::Snooped;
         }
         Mark::HeldUp
@@ -117,8 +151,8 @@ impl Home {
         }
     }
 
-    /// The line, if there is one, has the mark that it has after the event. It gives the line that may
-    /// be marked as held up no more, if there is one.
+    /// The line, if there is one, has the mark that it has after the event. It gives the line that
+    /// may be marked as held up no more, if there is one.
     #[inline(always)]
     pub(crate) fn renew(&mut self, event: &Event, line: Option<u32>) -> Option<u32>
         ensures others { (l : ℕ) (m : Marks) → (line ≡ Some l → ⊥)

@@ -13,7 +13,7 @@ const SLOTS: usize = 1024;
 pub enum Mark {
     /// No port is left to snoop for it.
     Snooped,
-    /// Nor is some answer to its snoops whole, and it has no passed data.
+    /// Nor is some answer to its snoops whole, and it has no passed data that it can't take.
     HeldUp,
 }
 

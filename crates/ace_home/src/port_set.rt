@@ -69,8 +69,10 @@ impl PortSet {
     /// The port is none of them from now on.
     #[inline(always)]
     pub fn remove(&mut self, port: u8)
-        ensures { (p : ℕ) → has_port self.new p ≡ true
+        ensures less { (p : ℕ) → has_port self.new p ≡ true
             → (has_port self.old p ≡ true) × ((port == p) ≡ false) }
+        ensures others { (p : ℕ) → has_port self.old p ≡ true → (port == p) ≡ false
+            → has_port self.new p ≡ true }
     {
         if port < 32 {
             self.bits = without_bit(self.bits, port);

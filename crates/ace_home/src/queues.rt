@@ -68,6 +68,18 @@ impl Home {
         false
     }
 
+    /// An outstanding transaction of the port goes before it.
+    pub(crate) fn has_older_at(&self, port: u8, x: &Transaction) -> bool
+        ensures { result ≡ true → (plan : Plan) (past : Trace) → HomeStands self.now plan past
+            → (y : Issued) × IsOf plan.header past port y
+            × (goes_before plan.header past y x.now ≡ true) }
+    {
+        if self.has_older(port, Channel::Read, x) {
+            return true;
+        }
+        self.has_older(port, Channel::Write, x)
+    }
+
     /// No older transaction waits for the line, which isn't granted, but for those that barriers hold.
     pub(crate) fn is_first_to_wait(&self, x: &Transaction) -> bool
         ensures { (plan : Plan) (past : Trace) → HomeStands self.now plan past → granted plan.header past x.now.addr ≡ None

@@ -8,8 +8,8 @@ use crate::port_set::PortSet;
 /// How many sets of ports are kept beside lines.
 const SETS: usize = 64;
 
-/// Ports for which the home can do nothing before an event comes that moves something of theirs. Each
-/// is known beside the lines that its outstanding transactions name.
+/// Ports for which the home can do nothing before an event comes that moves something of theirs.
+/// Each is known beside the lines that its outstanding transactions name.
 #[derive(Drop)]
 pub struct RestingPorts {
     ports: PortSet,
@@ -44,7 +44,8 @@ impl RestingPorts {
     /// The port is one of them from now on.
     #[inline(always)]
     pub fn add(&mut self, port: u8)
-        ensures less { (p : ℕ) → is_resting self.new p ≡ true → (port == p) ≡ false → is_resting self.old p ≡ true }
+        ensures less { (p : ℕ) → is_resting self.new p ≡ true → (port == p) ≡ false
+            → is_resting self.old p ≡ true }
         ensures known { (l p : ℕ) → may_name self.new l p ≡ may_name self.old l p }
     {
         self.ports.add(port);
@@ -53,7 +54,8 @@ impl RestingPorts {
     /// The port is none of them from now on.
     #[inline(always)]
     pub fn rouse(&mut self, port: u8)
-        ensures less { (p : ℕ) → is_resting self.new p ≡ true → (is_resting self.old p ≡ true) × ((port == p) ≡ false) }
+        ensures less { (p : ℕ) → is_resting self.new p ≡ true
+            → (is_resting self.old p ≡ true) × ((port == p) ≡ false) }
         ensures known { (l p : ℕ) → may_name self.new l p ≡ may_name self.old l p }
     {
         self.ports.remove(port);
@@ -78,6 +80,24 @@ impl RestingPorts {
         ensures rest { (p : ℕ) → is_resting self.new p ≡ is_resting self.old p }
     {
         self.beside[set_of(line)].add(port);
+    }
+
+    /// The port is none of them from now on, and isn't known beside the line any more.
+    #[inline(always)]
+    pub fn forget(&mut self, port: u8, line: u32)
+        ensures less { (p : ℕ) → is_resting self.new p ≡ true
+            → (is_resting self.old p ≡ true) × ((port == p) ≡ false) }
+        ensures known { (l p : ℕ) → (port == p) ≡ false → may_name self.old l p ≡ true
+            → may_name self.new l p ≡ true }
+    {
+        self.ports.remove(port);
+        self.beside[set_of(line)].remove(port);
+    }
+
+    /// The ports that are known beside the line.
+    #[inline(always)]
+    pub fn beside(&self, line: u32) -> PortSet {
+        self.beside[set_of(line)]
     }
 
     /// The ports beside the line that aren't at rest, which aren't known beside it any more.

@@ -11,5 +11,5 @@ returns c = λ h past s snooped.
     let at : c.place-place.result ≡ place_on c.lines-lines.result.now (Some line) = c.place-place.ensures in record {
       answering = sym (c.is_answering.ensures r line lines at) ∙ c.if-not-is_answering.false;
       snooped = snooped;
-      clean = sym (c.has_passed_data.ensures r line lines at) ∙ c.if-has_passed_data.false;
+      unstuck = c.is_stuck.ensures c.if-is_stuck.false h past s;
     }
