@@ -3,3 +3,4 @@ pub mod Hearing
 pub mod HeaderLines
 pub mod Lines
 pub mod Telling
+pub mod Unread

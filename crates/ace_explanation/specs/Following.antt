@@ -1,5 +1,5 @@
 -- How a trace is followed event by event to its explanation.
-use Rattle.std.specs.Prelude.{◌≡◌, ◌≤◌, ℕ, false, List, [], ◌∷◌, Option, None, Some, Result, Ok, Err, IfNone, IfSome, length}
+use Rattle.std.specs.Prelude.{◌≡◌, ℕ, false, List, [], ◌∷◌, Option, None, Some, IfNone, IfSome, length}
 use Rattle.ace_check.specs.Promises.{goes_over_within}
 use Rattle.ace_check.specs.Run.{StandsWithin}
 use Rattle.ace_event.specs.declared.event.Event.{Event}
@@ -8,49 +8,39 @@ use Rattle.ace_clauses.specs.Clauses.{clause_of}
 use Rattle.ace_explain.specs.LastLoads.{LoadsStand}
 use Rattle.ace_explanation.specs.Explanations.{IsOther, verdict_of}
 use Rattle.ace_explanation.specs.declared.explanation.Explanation.{Explanation}
-use Rattle.ace_explanation.specs.declared.explanation.Explanation.TheVariants.{Refused, Other}
+use Rattle.ace_explanation.specs.declared.explanation.Explanation.TheVariants.{Refused, Malformed, Other}
 use Rattle.ace_explanation.specs.declared.listener.Listener.{Listener}
-use Rattle.ace_grammar.specs.Reader.{header_of, most_of}
-use Rattle.ace_grammar.specs.Reading.{most_counted}
-use Rattle.ace_grammar.specs.declared.error.ReadErr.{ReadErr}
-use Rattle.ace_grammar.specs.declared.reader.Reader.{Reader}
-use Rattle.ace_io.specs.declared.outside.Source.{Ghosts}
 use Rattle.ace_model.specs.Accepted.{least_broken}
 use Rattle.ace_model.specs.Trace.{Trace}
-use Rattle.ace_verdict.specs.Errors.{refusal_of}
 use Rattle.ace_verdict.specs.Progress.{StandsAt, StopsAt}
 use Rattle.ace_verdict.specs.declared.limits.Limits.{Limits}
-use Rattle.ace_verdict.specs.declared.verdict.Verdict.{Verdict}
-use Rattle.ace_verdict.specs.declared.verdict.Verdict.TheVariants as verdict
 
--- Where the event that ends the check breaks a rule, it is the one that is told, with its header, and the clause is the first of the rule that is false.
+-- Where the event that ends the check breaks a rule, it is the one that is told, with its header,
+-- and the clause is the first of the rule that is false.
 abbrev pub BreaksAt : Header → Trace → Event → Explanation → Type 0
-BreaksAt h past e (Refused r) = (r.header ≡ h) × (r.event ≡ e) × (clause_of h past e r.rule ≡ Some r.letter)
+BreaksAt h past e (Refused r) =
+    (r.header ≡ h) × (r.event ≡ e) × (clause_of h past e r.rule ≡ Some r.letter)
+BreaksAt h past e (Malformed b) = ⊥
 BreaksAt h past e (Other v) = IsOther v
 
--- The listener has heard a trace, which is fine: its checker of so many lines stands for it, and so do the loads.
+-- The listener has heard a trace, which is fine: its checker of so many lines stands for it, and so
+-- do the loads.
 abbrev pub HasFollowed : ℕ → Listener → Header → Trace → Type 0
 HasFollowed lines l h past = StandsWithin lines l.checker h past None × LoadsStand past l.loads
 
--- The listener, of so many lines, which stood for a trace, has heard one event more, which is fine, and stands for the longer trace; or the
--- event ended the check, and that is explained.
-pub record HasHeard (lines : ℕ) (new : Listener) (h : Header) (past : Trace) (e : Event) (stop : Option Explanation) : Type 0 where
-  pub fine : IfNone stop ((least_broken h past e ≡ None) × (goes_over_within lines past e ≡ false))
+-- The listener, of so many lines, which stood for a trace, has heard one event more, which is fine,
+-- and stands for the longer trace; or the event ended the check, and that is explained.
+pub record HasHeard (lines : ℕ) (new : Listener) (h : Header) (past : Trace) (e : Event)
+    (stop : Option Explanation) : Type 0 where
+  pub fine : IfNone stop ((least_broken h past e ≡ None)
+      × (goes_over_within lines past e ≡ false))
   pub stands : IfNone stop (HasFollowed lines new h (e ∷ past))
   pub stops : IfSome stop (λ x. StopsAt lines h past e (verdict_of x))
   pub breaks : IfSome stop (BreaksAt h past e)
 
--- The listener and the reader, of the same limits, are at the start of a trace.
-abbrev pub IsReady : {S : Type 0} {g : Ghosts S} → Limits → Listener → Reader S g → Type 0
-IsReady limits c reader =
-    (limits.events ≤ most_counted) × (most_of reader ≡ limits.events) × HasFollowed limits.lines c (header_of reader) []
-
 -- Since nothing but a header was read, so many events were read and heard, each of them fine.
 abbrev pub HasCome : Limits → Listener → ℕ → Header → Option (List ℕ) → Option (List ℕ) → Type 0
-HasCome limits c count h start left = (past : Trace) × HasFollowed limits.lines c h past × (count ≡ length past)
-    × ((told : Option (List ℕ)) → StandsAt limits.lines told h [] start → StandsAt limits.lines told h past left)
-
--- the verdict where the reading ends so, after so many events that are fine
-abbrev pub end_verdict : Result (Option Event) ReadErr → ℕ → Verdict
-end_verdict (Ok next) events = verdict.Accepted events
-end_verdict (Err error) events = refusal_of error
+HasCome limits c count h start left =
+    (past : Trace) × HasFollowed limits.lines c h past × (count ≡ length past)
+    × ((told : Option (List ℕ)) → StandsAt limits.lines told h [] start
+    → StandsAt limits.lines told h past left)

@@ -36,7 +36,8 @@ wrong_part rule letter = codes ": " ++ wrong_sentence rule letter
 unfoldable pub kept_part : ℕ → Letter → List ℕ
 kept_part rule letter = codes ": " ++ kept_sentence rule letter
 
--- the first line, as a compiler tells of an error: FILE:LINE, the verdict, and what is wrong. The lines of the header are 1 and 2.
+-- the first line, as a compiler tells of an error: FILE:LINE, the verdict, and what is wrong. The
+-- lines of the header are 1 and 2.
 unfoldable pub refusal_line : List ℕ → Refusal → List ℕ
 refusal_line name r =
     place_text name (r.index + 2) ++ codes ": refused event " ++ decimal r.index ++ codes ": "
@@ -45,13 +46,16 @@ refusal_line name r =
 -- what the rule asks: the name of the clause, the title of the rule, and where the clause is kept
 unfoldable pub rule_line : Refusal → List ℕ
 rule_line r =
-    codes "  " ++ page_name r.rule (Some r.letter) ++ codes "  " ++ title r.rule ++ kept_part r.rule r.letter ++ codes "\n"
+    codes "  " ++ page_name r.rule (Some r.letter) ++ codes "  " ++ title r.rule
+    ++ kept_part r.rule r.letter ++ codes "\n"
 
 -- the event as it stands in the trace, and what the rule asks, each with an empty line before it
 unfoldable pub evidence : Refusal → List ℕ
 evidence r =
-    codes "\n  " ++ line_text (event_text r.header.version r.event) ++ codes "\n" ++ rule_line r
+    codes "\n  " ++ line_text (event_text r.header.version r.event) ++ codes "\n"
+    ++ rule_line r
 
--- what is told of the event in the trace of this name: the first line alone where that was asked for
+-- what is told of the event in the trace of this name: the first line alone where that was asked
+-- for
 unfoldable pub refusal_text : List ℕ → Bool → Refusal → List ℕ
 refusal_text name short r = refusal_line name r ++ (if short then [] else evidence r)

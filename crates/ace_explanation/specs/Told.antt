@@ -1,21 +1,24 @@
 -- What was told of a trace.
-use Rattle.std.specs.Prelude.{◌≡◌, ◌⊎◌, ℕ, Bool, List, Option, IfSome}
+use Rattle.std.specs.Prelude.{◌≡◌, ◌⊎◌, ℕ, Bool, List, Option}
 use Rattle.std.specs.Io.KnownBytes.{Appends}
 use Rattle.ace_convert.specs.Output.{AppendsPart}
-use Rattle.ace_explanation.specs.Explanations.{IsExplanation, verdict_of}
+use Rattle.ace_explanation.specs.Explanations.{verdict_of}
 use Rattle.ace_explanation.specs.Texts.{explanation_text}
 use Rattle.ace_explanation.specs.declared.explanation.Explanation.{Explanation}
-use Rattle.ace_explanation.specs.declared.explanation.Explanation.TheVariants.{Refused, Other}
+use Rattle.ace_explanation.specs.declared.explanation.Explanation.TheVariants.{Other}
 use Rattle.ace_verdict.specs.declared.verdict.Verdict.{Verdict}
 use Rattle.ace_verdict.specs.declared.verdict.Verdict.TheVariants as verdict
 
--- What is told is the explanation itself; of a refused trace it may be that there was no memory for the text.
+-- What is told is the explanation itself; where that is more than a verdict, it may be that there
+-- was no memory for the text.
 abbrev pub IsToldAs : Explanation → Explanation → Type 0
-IsToldAs (Refused r) told = (told ≡ Refused r) ⊎ (told ≡ Other verdict.NoMemory)
 IsToldAs (Other v) told = told ≡ Other v
+IsToldAs x told = (told ≡ x) ⊎ (told ≡ Other verdict.NoMemory)
 
--- The explanation was told of the trace of this name: its text was appended, and its verdict is this.
-abbrev pub HasTold : List ℕ → Bool → Explanation → Option (List ℕ) → Option (List ℕ) → Verdict → Type 0
+-- The explanation was told of the trace of this name: its text was appended, and its verdict is
+-- this.
+abbrev pub HasTold : List ℕ → Bool → Explanation → Option (List ℕ) → Option (List ℕ) → Verdict
+    → Type 0
 HasTold name short x out out' v = (told : Explanation) × IsToldAs x told
     × (v ≡ verdict_of told) × Appends out out' (explanation_text name short told)
 
@@ -23,14 +26,3 @@ HasTold name short x out out' v = (told : Explanation) × IsToldAs x told
 abbrev pub HasToldPart : List ℕ → Bool → Explanation → Option (List ℕ) → Option (List ℕ) → Type 0
 HasToldPart name short x out out' = (told : Explanation) × IsToldAs x told
     × AppendsPart out out' (explanation_text name short told)
-
--- The trace with these bytes was explained under this name: the text of an explanation that is right of them was appended, and its
--- verdict is this.
-abbrev pub HasExplained : Option (List ℕ) → List ℕ → Bool → Option (List ℕ) → Option (List ℕ) → Verdict → Type 0
-HasExplained bytes name short out out' v = (x : Explanation) × IfSome bytes (λ b. IsExplanation b x)
-    × (v ≡ verdict_of x) × Appends out out' (explanation_text name short x)
-
--- A front of such a text was appended.
-abbrev pub HasExplainedPart : Option (List ℕ) → List ℕ → Bool → Option (List ℕ) → Option (List ℕ) → Type 0
-HasExplainedPart bytes name short out out' = (x : Explanation) × IfSome bytes (λ b. IsExplanation b x)
-    × AppendsPart out out' (explanation_text name short x)

@@ -5,9 +5,9 @@ ghost use Rattle.ace_event.specs.Ports.{IsHeader};
 ghost use Rattle.ace_event.specs.Range.{InRange};
 ghost use Rattle.ace_event.specs.Text.{event_text, header_text, line_text};
 
-use crate::pushing::push;
 use ace_event::{Event, Header};
 use ace_io::{MemSink, NoMemory, Sink};
+use ace_malformed::push;
 use ace_writer::Writer;
 use std::alloc::Global;
 

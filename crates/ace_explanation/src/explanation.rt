@@ -3,6 +3,7 @@ ghost use Rattle.std.specs.Prelude.{◌≡◌};
 ghost use Rattle.ace_explanation.specs.Explanations.{verdict_of};
 
 use crate::refusal::Refusal;
+use ace_malformed::BadLine;
 use ace_verdict::Verdict;
 
 /// What there is to say of a trace.
@@ -10,6 +11,8 @@ use ace_verdict::Verdict;
 pub enum Explanation {
     /// An event breaks a rule.
     Refused { refusal: Refusal },
+    /// A line is malformed.
+    Malformed { bad: BadLine },
     /// Another verdict, which says all.
     Other { verdict: Verdict },
 }
@@ -23,6 +26,10 @@ impl Explanation {
             Explanation::Refused { refusal } => Verdict::Refused {
                 index: refusal.index,
                 rule: refusal.rule,
+            },
+            Explanation::Malformed { bad } => Verdict::Malformed {
+                line: bad.number,
+                reason: bad.reason,
             },
             Explanation::Other { verdict } => verdict,
         }

@@ -1,12 +1,13 @@
 // Follows a trace event by event to its explanation.
-ghost use Rattle.std.specs.Prelude.{◌≡◌, ◌<◌, ◌≤◌, ◌-◌, ◌^◌, ℕ, List, [], Option, Some, None, false, length, IfSome};
+ghost use Rattle.std.specs.Prelude.{◌≡◌, ◌<◌, ◌≤◌, ◌-◌, ◌^◌, ℕ, List, [], Option, Some, None, length, IfSome};
 ghost use Rattle.ace_check.specs.Run.{StandsWithin};
 ghost use Rattle.ace_event.specs.Ports.{IsHeader};
 ghost use Rattle.ace_explain.specs.LastLoads.{LoadsStand};
-ghost use Rattle.ace_explanation.specs.Explanations.{HasAnyLine, IsExplanationWithin, verdict_of};
-ghost use Rattle.ace_explanation.specs.Following.{BreaksAt, HasFollowed, HasHeard, IsReady, end_verdict};
-ghost use Rattle.ace_grammar.specs.Reader.{source_of, unread, header_of, count_of, last_answer, lasting, given};
+ghost use Rattle.ace_explanation.specs.Explanations.{HasAnyLine, IsExplanationWithin, ShowsPlace, verdict_of};
+ghost use Rattle.ace_explanation.specs.Following.{BreaksAt, HasFollowed, HasHeard};
 ghost use Rattle.ace_grammar.specs.Reading.{most_counted};
+ghost use Rattle.ace_io.specs.Reader.{source_of, waiting};
+ghost use Rattle.ace_malformed.specs.Cut.{IsLineOf, ShowsLine};
 ghost use Rattle.ace_model.specs.Accepted.{least_broken};
 ghost use Rattle.ace_model.specs.Trace.{Trace};
 ghost use Rattle.ace_model.specs.declared.breaks.Break.{Break};
@@ -14,6 +15,7 @@ ghost use Rattle.ace_verdict.specs.Errors.{refusal_of};
 ghost use Rattle.ace_verdict.specs.Progress.{HasReadCause, IsStop, StandsAt};
 ghost use Rattle.ace_verdict.specs.declared.limits.Limits.{Limits as Bounds};
 ghost use Rattle.ace_verdict.specs.declared.verdict.Verdict.TheVariants.{Refused};
+ghost use Rattle.ace_verdict.specs.declared.verdict.Verdict.TheVariants as verdict;
 
 use crate::explanation::Explanation;
 use crate::listener::Listener;
@@ -21,8 +23,9 @@ use crate::refusal::Refusal;
 use ace_check::{CheckErr, Checker, Step};
 use ace_event::{Event, Header};
 use ace_explain::{LastLoads, clause};
-use ace_grammar::{NO_EVENT, ReadErr, Reader};
-use ace_io::Source;
+use ace_grammar::{ReadErr, Reason};
+use ace_io::{LineBuf, LineReader, NoMemory, Source};
+use ace_malformed::{BadLine, LineText, next_event, read_header};
 use ace_verdict::{Limits, Verdict};
 use std::alloc::Global;
 
@@ -69,72 +72,109 @@ fn hear(listener: &mut Listener, header: Header, event: &Event) -> Option<Explan
     }
 }
 
-/// The verdict where a trace could not be read on.
-fn refusal_of(error: ReadErr) -> Verdict
-    ensures { result ≡ refusal_of error }
+/// The line is malformed: `line` is it.
+fn malformed(number: u64, reason: Reason, version: u8, line: &LineBuf) -> Explanation
+    ensures verdict { verdict_of result ≡ verdict.Malformed number reason }
+    ensures place { (bytes : List ℕ) → IsLineOf bytes version number line.now
+        → ShowsPlace bytes result }
+    ensures line { HasAnyLine result }
+{
+    Explanation::Malformed {
+        bad: BadLine {
+            number,
+            reason,
+            version,
+            line: LineText::of(line),
+        },
+    }
+}
+
+/// What there is to say where a trace of a version could not be read on. After `Malformed` `line`
+/// is the line that is so.
+#[tactic(auto, using(crate::proofs::Unread::unread))]
+fn unreadable(error: ReadErr, version: u8, line: &LineBuf) -> Explanation
+    ensures verdict { verdict_of result ≡ refusal_of error }
+    ensures place { (told : Option (List ℕ)) → ShowsLine told version line.now error
+        → IfSome told (λ bytes. ShowsPlace bytes result) }
+    ensures line { HasAnyLine result }
 {
     match error {
-        ReadErr::Malformed { line, reason } => Verdict::Malformed { line, reason },
-        ReadErr::TooManyEvents => Verdict::LimitEvents,
-        ReadErr::ReadFault => Verdict::ReadFault,
-        ReadErr::NoMemory => Verdict::NoMemory,
+        ReadErr::Malformed {
+            line: number,
+            reason,
+        } => malformed(number, reason, version, line),
+        ReadErr::TooManyEvents => Explanation::Other {
+            verdict: Verdict::LimitEvents,
+        },
+        ReadErr::ReadFault => Explanation::Other {
+            verdict: Verdict::ReadFault,
+        },
+        ReadErr::NoMemory => Explanation::Other {
+            verdict: Verdict::NoMemory,
+        },
     }
 }
 
-/// The verdict where the reading of a trace has ended after so many events that are fine.
-fn end_verdict<S: Source>(reader: &mut Reader<S>, event: &mut Event, events: u64) -> Verdict
-    requires kept { last_answer reader.old
-        ≡ lasting (given false event.old (last_answer reader.old)) }
-    ensures same { reader.new ≡ reader.old }
-    ensures end { result ≡ end_verdict (given false event.old (last_answer reader.old)) events }
-{
-    match reader.next_into(event) {
-        Ok(_) => Verdict::Accepted { events },
-        Err(error) => refusal_of(error),
-    }
-}
-
-/// Follows the events of a trace to its end, or to one that ends the check.
+/// Follows the events of a trace, which are at most so many, to its end, or to one that ends the
+/// check. `line` is room for a line.
 #[tactic(auto, using(crate::proofs::Ends::ends))]
-fn follow<S: Source>(listener: &mut Listener, reader: &mut Reader<S>) -> Explanation
-    requires reads_on { last_answer reader.old ≡ None }
-    requires fresh { count_of reader.old ≡ 0 }
-    ensures same_source { (source_of reader.new).ghost_name ≡ (source_of reader.old).ghost_name }
-    ensures right { (limits : Bounds) (told : Option (List ℕ))
-        → IsReady limits listener.old reader.old
-        → StandsAt limits.lines told (header_of reader.old) [] (unread S.left reader.old)
+fn follow<S: Source>(
+    listener: &mut Listener,
+    lines: &mut LineReader<S>,
+    line: &mut LineBuf,
+    header: Header,
+    most: u64,
+) -> Explanation
+    requires counted { most ≤ most_counted }
+    ensures same_source { (source_of lines.new).ghost_name ≡ (source_of lines.old).ghost_name }
+    ensures right { (limits : Bounds) (told : Option (List ℕ)) → limits.events ≡ most
+        → HasFollowed limits.lines listener.old header []
+        → StandsAt limits.lines told header [] (waiting S.left lines.old)
         → IfSome told (λ bytes. IsExplanationWithin limits bytes result) }
-    ensures line { (limits : Bounds) → IsReady limits listener.old reader.old
-        → IsHeader (header_of reader.old) → HasAnyLine result }
-    ensures cause { HasReadCause (S.faults (source_of reader.old).now)
-        (S.faults (source_of reader.new).now) (verdict_of result) }
+    ensures line { (limits : Bounds) → limits.events ≡ most
+        → HasFollowed limits.lines listener.old header [] → IsHeader header → HasAnyLine result }
+    ensures cause { HasReadCause (S.faults (source_of lines.old).now)
+        (S.faults (source_of lines.new).now) (verdict_of result) }
 {
-    let header = reader.header();
-    let mut event = NO_EVENT;
-    'events: while reader.gives(&mut event) {
-        if let Some(stop) = hear(listener, header, &event) {
-            return stop;
+    let mut events = 0;
+    'events: loop {
+        match next_event(lines, line, most, events, header.version) {
+            Ok(Some(event)) => {
+                if let Some(stop) = hear(listener, header, &event) {
+                    return stop;
+                }
+                events += 1;
+            }
+            Ok(None) => return Explanation::Other {
+                verdict: Verdict::Accepted { events },
+            },
+            Err(error) => return unreadable(error, header.version, line),
         }
     }
-    Explanation::Other {
-        verdict: end_verdict(reader, &mut event, listener.checker.count()),
-    }
 }
 
-/// What there is to say of the trace that the input gives, which may have so much.
+/// What there is to say of the trace whose lines these are, which may have so much.
 #[tactic(auto, using(crate::proofs::Ends::starts))]
-pub fn explanation_within<S: Source>(alloc: Global, input: &mut S, limits: Limits) -> Explanation
+fn explanation_of<S: Source>(
+    alloc: Global,
+    lines: &mut LineReader<S>,
+    limits: Limits,
+) -> Explanation
     requires counted { limits.events ≤ most_counted }
-    ensures right { IfSome (S.left input.old) (λ bytes. IsExplanationWithin limits bytes result) }
+    ensures same_source { (source_of lines.new).ghost_name ≡ (source_of lines.old).ghost_name }
+    ensures right { IfSome (waiting S.left lines.old)
+        (λ bytes. IsExplanationWithin limits bytes result) }
     ensures line { HasAnyLine result }
-    ensures cause { HasReadCause (S.faults input.old) (S.faults input.new) (verdict_of result) }
+    ensures cause { HasReadCause (S.faults (source_of lines.old).now)
+        (S.faults (source_of lines.new).now) (verdict_of result) }
 {
-    match Reader::start_within(alloc, input, limits.events) {
-        Ok(mut reader) => match Checker::with_lines(alloc, reader.header(), limits.lines) {
+    let mut line = LineBuf::empty();
+    match read_header(lines, &mut line) {
+        Ok(header) => match Checker::with_lines(alloc, header, limits.lines) {
             Ok(checker) => {
                 let loads = LastLoads::new();
                 let mut listener = Listener { checker, loads };
-                let explanation = follow(&mut listener, &mut reader);
+                let explanation = follow(&mut listener, lines, &mut line, header, limits.events);
                 drop(listener);
                 explanation
             }
@@ -142,8 +182,24 @@ pub fn explanation_within<S: Source>(alloc: Global, input: &mut S, limits: Limit
                 verdict: Verdict::NoMemory,
             },
         },
-        Err(failed) => Explanation::Other {
-            verdict: refusal_of(failed.error),
-        },
+        Err(none) => unreadable(none.error, none.version, &line),
+    }
+}
+
+/// What there is to say of the trace that the input gives, which may have so much.
+pub fn explanation_within<S: Source>(alloc: Global, input: &mut S, limits: Limits) -> Explanation
+    requires counted { limits.events ≤ most_counted }
+    // It is right of the bytes, where the input tells them: the verdict is the one on them; of a
+    // trace that is refused the event is the first that breaks a rule, that rule the least that it
+    // breaks, and the clause the first of the rule that is false; and of one that is malformed the
+    // line is that of the bytes.
+    ensures right { IfSome (S.left input.old) (λ bytes. IsExplanationWithin limits bytes result) }
+    ensures line { HasAnyLine result }
+    // A read fault is told exactly where the input failed.
+    ensures cause { HasReadCause (S.faults input.old) (S.faults input.new) (verdict_of result) }
+{
+    match LineReader::start(alloc, input) {
+        Ok(mut lines) => explanation_of(alloc, &mut lines, limits),
+        Err(NoMemory) => unreachable!(),
     }
 }

@@ -1,19 +1,16 @@
-//! Why a trace is refused or malformed: the verdict on it, the clause of the rule that is broken, and
-//! the text that tells of them.
+//! Why a trace is refused or malformed: the verdict on it, the clause of the rule that is broken or
+//! the line that is malformed, and the text that tells of them.
 #![tactic(auto)]
 
 mod event_line;
-mod explain_trace;
 mod explanation;
 mod follow;
 mod listener;
-mod pushing;
 mod refusal;
 mod refusal_text;
 mod to_sink;
 mod verdict_text;
 
-pub use explain_trace::explain;
 pub use explanation::Explanation;
 pub use follow::explanation_within;
 pub use refusal::Refusal;

@@ -4,10 +4,10 @@ ghost use Rattle.ace_pages.specs.Pages.{page_name};
 ghost use Rattle.ace_explanation.specs.Refusals.{HasLine, evidence, kept_part, kept_sentence, place_text, refusal_line, refusal_text, rule_line, title, wrong_part, wrong_sentence};
 
 use crate::event_line::push_event_line;
-use crate::pushing::{push, push_number};
 use crate::refusal::Refusal;
 use ace_clauses::{ClauseName, Letter};
 use ace_io::NoMemory;
+use ace_malformed::{push, push_number};
 use ace_pages::page_name;
 use ace_words::{kept_where, rule_title, wrong_with};
 use std::alloc::Global;

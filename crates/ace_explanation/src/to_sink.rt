@@ -4,7 +4,7 @@ ghost use Rattle.ace_io.specs.Faults.{HasCause};
 ghost use Rattle.ace_explanation.specs.Explanations.{HasAnyLine};
 ghost use Rattle.ace_explanation.specs.Refusals.{HasLine};
 ghost use Rattle.ace_explanation.specs.Told.{HasTold, HasToldPart};
-ghost use Rattle.ace_explanation.specs.declared.explanation.Explanation.TheVariants.{Refused, Other};
+ghost use Rattle.ace_explanation.specs.declared.explanation.Explanation.TheVariants.{Refused, Malformed, Other};
 
 use crate::explanation::Explanation;
 use crate::refusal::Refusal;
@@ -12,6 +12,7 @@ use crate::refusal_text::refusal_text;
 use crate::verdict_text::give_verdict;
 use ace_call::give_text;
 use ace_io::{Failed, NoMemory, Sink};
+use ace_malformed::{BadLine, bad_line_text};
 use ace_verdict::Verdict;
 use std::alloc::Global;
 
@@ -60,6 +61,30 @@ fn tell_refusal<K: Sink>(
     }
 }
 
+/// Tells of the malformed line.
+#[tactic(auto, using(crate::proofs::Telling::telling))]
+fn tell_malformed<K: Sink>(
+    alloc: Global,
+    out: &mut K,
+    name: &str,
+    short: bool,
+    bad: BadLine,
+) -> Result<Verdict, Failed>
+    ensures whole { IfOk result (HasTold name.now short (Malformed bad) (K.held out.old)
+        (K.held out.new)) }
+    ensures part { OnErr result (HasToldPart name.now short (Malformed bad) (K.held out.old)
+        (K.held out.new)) }
+    ensures cause { HasCause (K.faults out.old) (K.faults out.new) result }
+{
+    match bad_line_text(alloc, name.as_bytes(), short, &bad) {
+        Ok(text) => match give_text(out, text.as_slice()) {
+            Ok(()) => Ok(Explanation::Malformed { bad }.verdict()),
+            Err(failed) => Err(failed),
+        },
+        Err(_) => tell_verdict(out, name, short, Verdict::NoMemory),
+    }
+}
+
 /// Tells the explanation of the trace of this name, or that there was no memory for that, and says
 /// which verdict was told.
 ///
@@ -83,6 +108,7 @@ pub fn tell<K: Sink>(
 {
     match explanation {
         Explanation::Refused { refusal } => tell_refusal(alloc, out, name, short, refusal),
+        Explanation::Malformed { bad } => tell_malformed(alloc, out, name, short, bad),
         Explanation::Other { verdict } => tell_verdict(out, name, short, verdict),
     }
 }

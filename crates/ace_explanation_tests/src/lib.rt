@@ -3,4 +3,6 @@
 #![tactic(auto)]
 
 #[cfg(test)]
+mod malformed;
+#[cfg(test)]
 mod texts;

@@ -1,18 +1,18 @@
 // What is told of traces.
-use ace_explanation::explain;
+use ace_explanation::{explanation_within, tell};
 use ace_io::{MemSink, MemSource};
-use ace_verdict::Verdict;
+use ace_verdict::{Limits, Verdict};
 use std::alloc::Global;
 use std::test::Fail;
 
 /// A trace, whether the first line alone is asked for, and what is told of it.
-type Row = (&'static str, bool, &'static str);
+pub type Row = (&'static str, bool, &'static str);
 
 /// A second grant of a line.
 const GRANTED_TWICE: &str =
     "ACE 1\nPORTS AA\nAR 0 0 00000040 7 1 0 0\nAR 1 0 00000040 7 1 0 0\nG 0 R 0\nG 1 R 0\n";
 
-const ROWS: [Row; 13] = [
+const ROWS: [Row; 6] = [
     ("ACE 1\nPORTS A\n", false, "x.trace: accepted 0\n"),
     (
         "ACE 1\nPORTS AA\nAR 0 0 00000040 7 1 0 0\n",
@@ -39,46 +39,11 @@ const ROWS: [Row; 13] = [
         true,
         "x.trace:3: refused event 1: K1: there is no such port\n",
     ),
-    (
-        "",
-        false,
-        "x.trace:1: malformed line 1: F1: the line is missing, or has no line feed within 256 bytes: was the recording cut off here?\n",
-    ),
-    (
-        "ACE 3\n",
-        true,
-        "x.trace:1: malformed line 1: F7: the header line is another one than it may be\n",
-    ),
-    (
-        "ACE 1\nPORTS A\nMEM 00000040 00\n",
-        false,
-        "x.trace:3: malformed line 3: F2: the line doesn't begin with a record of this version\n",
-    ),
-    (
-        "ACE 1\nPORTS A\nRK 0\n",
-        false,
-        "x.trace:3: malformed line 3: F3: the number of fields is wrong\n",
-    ),
-    (
-        "ACE 1\nPORTS A\nRK 00 UC\n",
-        false,
-        "x.trace:3: malformed line 3: F4: a field has another number of digits\n",
-    ),
-    (
-        "ACE 1\nPORTS A\nRK 0 uc\n",
-        false,
-        "x.trace:3: malformed line 3: F5: a field has a character that isn't 0 to 9 or a to f, or another word than it may be\n",
-    ),
-    (
-        "ACE 1\nPORTS A\nAR 0 0 00000040 7 1 0 2\n",
-        false,
-        "x.trace:3: malformed line 3: F6: a number is out of its range\n",
-    ),
 ];
 
 /// What is told of a trace of which this take fails, where there is room for so many bytes: the
 /// verdict if all was told, and whether the text is this.
-fn is_told(
+pub fn is_told(
     alloc: Global,
     trace: &str,
     failing: u32,
@@ -88,7 +53,8 @@ fn is_told(
 ) -> Result<(Option<Verdict>, bool), Fail> {
     let mut source = MemSource::new(alloc, trace.as_bytes(), &[64], &[failing])?;
     let mut sink = MemSink::new(alloc, room, &[])?;
-    let told = explain(alloc, &mut source, &mut sink, "x.trace", short).ok();
+    let explanation = explanation_within(alloc, &mut source, Limits::of_a_trace());
+    let told = tell(alloc, &mut sink, "x.trace", short, explanation).ok();
     drop(source);
     let holds = sink.bytes() == wanted.as_bytes();
     drop(sink);

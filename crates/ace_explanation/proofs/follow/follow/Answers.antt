@@ -1,45 +1,41 @@
-use Rattle.std.proofs.Common.{ap, ◌∙◌, arith}
-use Rattle.ace_event.specs.declared.header.Header.{Header}
-use Rattle.ace_explanation.proofs.Ends.{end_right, round_comes, round_line, round_stops}
-use Rattle.ace_verdict.proofs.ReaderEnds.{some_given}
+use Rattle.std.proofs.Common.{◌∙◌, arith, refl}
+use Rattle.ace_explanation.proofs.Ends.{failed, round_comes, round_line, round_stops, whole}
 use Rattle.ace_explanation.proofs.follow.follow.Goals as goal
 
 pub events-preserved : goal.events-preserved
 events-preserved g c =
     let before = c.events.invariant in
-    let next = c.gives.ensures in
-    let some = some_given _ _ _ _ _ _ _ _ _ _ _ _ c.events-test.true (rw before.most at next.next before.reads_on) next.count next.last (next.cause before.reads_on) in
+    let next = rw c.in-Ok-Some.field-0-is at c.in-Ok-Some.ensures.next in
     record {
-      reads_on = some.4;
-      most = next.same_most ∙ before.most;
-      few = omega (arith, some.3, some.0);
-      same_header = next.same_header ∙ before.same_header;
-      same_source = next.same_source ∙ before.same_source;
-      comes = λ limits ready. round_comes limits _ _ _ _ _ _ _ _ _ _ _ _ ready.0 c.in_default.is (ap (λ (h : Header). h.version) before.same_header)
-          c.header-header.ensures some.3 (rw ready.1 at some.0) some.1 some.2 c.hear.ensures.heard (before.comes limits ready);
-      faults = some.5 ∙ before.faults;
+      few = omega (arith, next.0);
+      same_source = c.in-Ok-Some.ensures.same_source ∙ before.same_source;
+      comes = λ limits same fresh. round_comes limits _ _ _ _ _ _ _ _ _ _ (rw same c.requires.counted) c.in_default.is refl (rw same next.0) next.1 next.2
+          c.hear.ensures.heard (before.comes limits same fresh);
+      faults = c.in-Ok-Some.ensures.cause ∙ before.faults;
     }
 
 pub returns-in-Some-clause-right : goal.returns-in-Some-clause-right
-returns-in-Some-clause-right g c limits told ready s =
+returns-in-Some-clause-right g c limits told same fresh s =
     let before = c.events.invariant in
-    let next = c.gives.ensures in
-    let some = some_given _ _ _ _ _ _ _ _ _ _ _ _ c.events-test.true (rw before.most at next.next before.reads_on) next.count next.last (next.cause before.reads_on) in
-    round_stops limits told _ _ _ _ _ _ _ _ _ _ _ c.in-Some.stop ready.0 c.in-Some.is (ap (λ (h : Header). h.version) before.same_header)
-    c.header-header.ensures (rw ready.1 at some.0) some.1 some.2 c.hear.ensures.heard (before.comes limits ready) s
+    let next = rw c.in-Ok-Some.field-0-is at c.in-Ok-Some.ensures.next in
+    round_stops limits told _ _ _ _ _ _ _ _ _ c.in-Some.stop (rw same c.requires.counted) c.in-Some.is (rw same next.0) next.1 next.2
+    c.hear.ensures.heard (before.comes limits same fresh) s
 
 pub returns-in-Some-clause-line : goal.returns-in-Some-clause-line
-returns-in-Some-clause-line g c limits ready header =
+returns-in-Some-clause-line g c limits same fresh header =
     let before = c.events.invariant in
-    let next = c.gives.ensures in
-    let some = some_given _ _ _ _ _ _ _ _ _ _ _ _ c.events-test.true (rw before.most at next.next before.reads_on) next.count next.last (next.cause before.reads_on) in
-    round_line limits _ _ _ _ _ _ _ _ _ _ c.in-Some.stop ready.0 c.in-Some.is (ap (λ (h : Header). h.version) before.same_header)
-    c.header-header.ensures (rw ready.1 at some.0) some.1 c.hear.ensures.heard (before.comes limits ready) header
+    let next = rw c.in-Ok-Some.field-0-is at c.in-Ok-Some.ensures.next in
+    round_line limits _ _ _ _ _ _ _ _ c.in-Some.stop (rw same c.requires.counted) c.in-Some.is (rw same next.0) next.1
+    c.hear.ensures.heard (before.comes limits same fresh) header
 
-pub returns-clause-right : goal.returns-clause-right
-returns-clause-right g c limits told ready s =
-    let before = c.events.invariant in
-    let come = before.comes limits ready in
-    rw c.end_verdict.ensures.end (end_right _ limits _ _ _ _ _ _ _ _ c.events-test.false c.gives.ensures.last
-    (rw (before.most, ready.1) at c.gives.ensures.next before.reads_on) told _ come.0 (rw ready.1 at before.few) come.2
-    (c.count.ensures limits.lines _ come.0 _ come.1.0) (ap (λ (h : Header). h.version) before.same_header) (come.3 told s))
+pub returns-in-Ok-None-clause-right : goal.returns-in-Ok-None-clause-right
+returns-in-Ok-None-clause-right g c limits told same fresh s =
+    let come = c.events.invariant.comes limits same fresh in
+    let next = rw c.in-Ok-None.field-0-is at c.in-Ok-None.ensures.next in
+    whole limits told _ come.0 _ _ (rw (← come.2, same) c.events.invariant.few) next.0 come.2 (come.3 told s)
+
+pub returns-in-Err-clause-right : goal.returns-in-Err-clause-right
+returns-in-Err-clause-right g c limits told same fresh s =
+    let come = c.events.invariant.comes limits same fresh in
+    failed limits _ told _ come.0 _ _ _ _ _ _ _ same come.2 c.unreadable.ensures.verdict c.in-Err.ensures.next c.in-Err.ensures.cut c.unreadable.ensures.place
+    (come.3 told s)

@@ -5,7 +5,11 @@ use ace_io::NoMemory;
 use itoa::Buffer;
 
 /// Adds the bytes at the end.
-pub(crate) fn push(text: &mut Vec<u8>, bytes: &[u8]) -> Result<(), NoMemory>
+///
+/// # Errors
+///
+/// `NoMemory` where there is none for the longer text.
+pub fn push(text: &mut Vec<u8>, bytes: &[u8]) -> Result<(), NoMemory>
     ensures { OnOk result (text.new.items ≡ text.old.items ++ bytes.now) }
 {
     match text.extend_from_slice(bytes) {
@@ -15,7 +19,11 @@ pub(crate) fn push(text: &mut Vec<u8>, bytes: &[u8]) -> Result<(), NoMemory>
 }
 
 /// Adds the digits of the number.
-pub(crate) fn push_number(text: &mut Vec<u8>, number: u64) -> Result<(), NoMemory>
+///
+/// # Errors
+///
+/// Those of `push`.
+pub fn push_number(text: &mut Vec<u8>, number: u64) -> Result<(), NoMemory>
     ensures { OnOk result (text.new.items ≡ text.old.items ++ decimal number) }
 {
     let mut digits = Buffer::new();

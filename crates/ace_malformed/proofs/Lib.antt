@@ -1,0 +1,3 @@
+pub mod Cuts
+pub mod Headers
+pub mod Slices
