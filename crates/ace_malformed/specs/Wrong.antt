@@ -1,5 +1,5 @@
 -- Which field of a malformed line is wrong, and where. Columns count bytes, from 1.
-use Rattle.std.specs.Prelude.{ℕ, ◌+◌, ◌==◌, Bool, false, if◌then◌else◌, List, [], ◌∷◌, length, min, Option, Some, None}
+use Rattle.std.specs.Prelude.{ℕ, ◌+◌, ◌==◌, Bool, false, if◌then◌else◌, List, [], ◌∷◌, length, Option, Some, None}
 use Rattle.std.specs.List.{slice_split}
 use Rattle.ace_grammar.specs.Reasons.{field_reason, number_of_reason}
 use Rattle.ace_grammar.specs.declared.reason.Reason.{Reason}
