@@ -1,3 +1,4 @@
 pub mod Cuts
 pub mod Headers
+pub mod Shapes
 pub mod Slices
