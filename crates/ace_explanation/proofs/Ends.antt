@@ -1,5 +1,5 @@
 -- One event more, and the end.
-use Rattle.std.proofs.Common.{◌≡◌, ◌<◌, ◌≤◌, ◌+◌, ◌-◌, ◌^◌, ◌++◌, ℕ, List, [], ◌∷◌, Option, Some, None, Result, Ok, Err, IfSome, length, reverse, refl, sym, ap, subst, ◌∙◌, arith, inr}
+use Rattle.std.proofs.Common.{◌≡◌, ◌<◌, ◌≤◌, ◌+◌, ◌-◌, ◌^◌, ◌++◌, ℕ, List, [], ◌∷◌, Option, Some, None, Err, IfSome, length, reverse, refl, sym, ap, subst, ◌∙◌, arith, inr}
 use Rattle.std.specs.Io.KnownBytes.{Consumes, IsAtEnd}
 use Rattle.std.proofs.KnownBytes.{Consumes-trans}
 use Rattle.std.proofs.lemmas.List.{length-reverse, reverse-append}
@@ -23,13 +23,12 @@ use Rattle.ace_malformed.specs.Cut.{IsFirstCut, IsLineOf, ShowsCut, ShowsLine}
 use Rattle.ace_model.specs.Trace.{Trace}
 use Rattle.ace_verdict.proofs.ErrorLemmas.{error_cause, no_header_cause, no_header_verdict, stop_cause}
 use Rattle.ace_verdict.proofs.Followed.{accepted_cause}
-use Rattle.ace_verdict.proofs.ProgressLemmas.{error_verdict, stands_at_start, stands_further, stop_verdict}
+use Rattle.ace_verdict.proofs.ProgressLemmas.{error_verdict, stands_further, stop_verdict}
 use Rattle.ace_verdict.proofs.Stops.{no_stop}
 use Rattle.ace_verdict.specs.Errors.{refusal_of}
 use Rattle.ace_verdict.specs.Progress.{HasReadCause, StandsAt, StopsAt}
 use Rattle.ace_verdict.specs.Verdict.{IsVerdictWithin}
 use Rattle.ace_verdict.specs.declared.limits.Limits.{Limits}
-use Rattle.ace_verdict.specs.declared.verdict.Verdict.{Verdict}
 use Rattle.ace_verdict.specs.declared.verdict.Verdict.TheVariants as verdict
 
 -- the listener has heard one event more, which is fine

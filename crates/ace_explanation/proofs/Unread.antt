@@ -1,5 +1,5 @@
 -- What is said where a trace could not be read on.
-use Rattle.std.proofs.Common.{◌≡◌, ℕ, List, Option, Some, None, IfSome}
+use Rattle.std.proofs.Common.{ℕ, List, Option, Some, None, IfSome}
 use Rattle.ace_explanation.specs.Explanations.{IsOther, ShowsPlace}
 use Rattle.ace_explanation.specs.declared.explanation.Explanation.{Explanation}
 use Rattle.ace_explanation.specs.declared.explanation.Explanation.TheVariants.{Other}

@@ -1,3 +1,5 @@
 pub mod Cuts
+pub mod Found
 pub mod Headers
+pub mod Shapes
 pub mod Slices

@@ -3,7 +3,7 @@ use Rattle.std.specs.Prelude.{ℕ, ◌+◌, ◌==◌, ◌||◌, Bool, true, fals
 use Rattle.std.specs.List.{ends_with, starts_with}
 use Rattle.ace_grammar.specs.Reasons.{is_digit}
 use Rattle.ace_grammar.specs.declared.reason.Reason.{Reason}
-use Rattle.ace_grammar.specs.declared.reason.Reason.TheVariants.{F1, F2, F3, F4, F5, F6, F7}
+use Rattle.ace_grammar.specs.declared.reason.Reason.TheVariants.{F1, F2, F3, F5, F7}
 use Rattle.ace_grammar.specs.declared.shapes.Shape.{Shape}
 use Rattle.ace_grammar.specs.declared.shapes.Shape.TheVariants as shape
 use Rattle.ace_malformed.specs.Fields.{fields_of, shape_of}

@@ -1,11 +1,11 @@
 -- What is wrong in a malformed line, and what may stand there.
-use Rattle.std.specs.Prelude.{ℕ, ◌==◌, ◌&&◌, nat_le, Bool, true, false, if◌then◌else◌, List, [], ◌∷◌, ◌++◌, codes, decimal, drop, length, map, take, Option, Some, None}
-use Rattle.std.specs.List.{count_by, slice_get}
+use Rattle.std.specs.Prelude.{ℕ, ◌==◌, ◌&&◌, nat_le, Bool, if◌then◌else◌, List, [], ◌∷◌, ◌++◌, codes, decimal, drop, length, map, take, Option, Some, None}
+use Rattle.std.specs.List.{count_by}
 use Rattle.std.specs.Option.{is_some}
 use Rattle.std.specs.Str.{bytes_eq}
 use Rattle.ace_event.specs.Text.{port_digits}
 use Rattle.ace_grammar.specs.declared.reason.Reason.{Reason}
-use Rattle.ace_grammar.specs.declared.reason.Reason.TheVariants.{F1, F2, F3, F4, F5, F6, F7}
+use Rattle.ace_grammar.specs.declared.reason.Reason.TheVariants.{F1, F2, F3, F4, F5, F7}
 use Rattle.ace_grammar.specs.declared.shapes.Shape.{Shape}
 use Rattle.ace_grammar.specs.declared.shapes.Shape.TheVariants.{Port, Digits, AtMost, SnoopResponse, ChannelWord, StateWord, OutcomeWord}
 use Rattle.ace_malformed.specs.Fields.{field_name, fields_of, shape_of}

@@ -1,5 +1,5 @@
 -- The text that tells of a malformed line.
-use Rattle.std.specs.Prelude.{ℕ, ◌+◌, ◌-◌, ◌==◌, nat_lt, Bool, if◌then◌else◌, List, [], ◌++◌, codes, decimal, drop, length, replicate, take}
+use Rattle.std.specs.Prelude.{ℕ, ◌-◌, ◌==◌, nat_lt, Bool, if◌then◌else◌, List, [], ◌++◌, codes, decimal, drop, length, replicate, take}
 use Rattle.ace_grammar.specs.Reasons.{number_of_reason}
 use Rattle.ace_malformed.specs.Places.{column_of}
 use Rattle.ace_malformed.specs.Sentences.{expected, shown, wrong_sentence}

@@ -1,8 +1,9 @@
 -- Which field of a malformed line is wrong, and where. Columns count bytes, from 1.
-use Rattle.std.specs.Prelude.{ℕ, ◌+◌, ◌==◌, Bool, false, if◌then◌else◌, List, [], ◌∷◌, length, min, Option, Some, None}
+use Rattle.std.specs.Prelude.{⊤, ℕ, ◌+◌, ◌==◌, Bool, false, if◌then◌else◌, List, [], ◌∷◌, length, Option, Some, None}
 use Rattle.std.specs.List.{slice_split}
 use Rattle.ace_grammar.specs.Reasons.{field_reason, number_of_reason}
 use Rattle.ace_grammar.specs.declared.reason.Reason.{Reason}
+use Rattle.ace_grammar.specs.declared.reason.Reason.TheVariants.{F4, F5, F6}
 use Rattle.ace_malformed.specs.Fields.{fields_of, shape_of}
 use Rattle.ace_malformed.specs.declared.field.Field.{Field}
 use Rattle.ace_malformed.specs.declared.wrong_field.WrongField.{WrongField}
@@ -24,6 +25,13 @@ words_of line = slice_split (λ byte. byte == 32) line
 abbrev pub is_reason : Reason → Option Reason → Bool
 is_reason reason None = false
 is_reason reason (Some other) = number_of_reason other == number_of_reason reason
+
+-- a reason that a field of a line can have
+abbrev pub IsOfField : Reason → Type 0
+IsOfField F4 = ⊤
+IsOfField F5 = ⊤
+IsOfField F6 = ⊤
+IsOfField reason = ⊥
 
 -- the first of these fields of which this is the reason, where they begin at a column
 unfoldable pub first_wrong : ℕ → Reason → ℕ → List Field → List (List ℕ) → Option Found

@@ -7,6 +7,7 @@ mod expected;
 mod field;
 mod field_reason;
 mod fields;
+pub mod laws;
 mod line_text;
 mod place;
 mod pushing;

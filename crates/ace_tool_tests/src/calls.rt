@@ -327,13 +327,13 @@ const TOLD: [Row; 34] = [
     (
         "explain malformed",
         3,
-        "malformed:3: malformed line 3: F2: the line doesn't begin with a record of this version\n",
+        "malformed:3:1: malformed line 3: F2: 'XX' is no record\n\n  XX 0\n  ^\n  expected  one of AR R RK AW W B WK AC CR CD G M S L D OP\n  No event was read.\n",
         "",
     ),
     (
         "explain short",
         3,
-        "short:1: malformed line 1: F1: the line is missing, or has no line feed within 256 bytes: was the recording cut off here?\n",
+        "short:1:2: malformed line 1: F1: the last line has no line feed: the recording was cut off here\n\n  ?\n   ^\n  expected  a line feed\n",
         "",
     ),
     (
