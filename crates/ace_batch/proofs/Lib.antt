@@ -1,0 +1,11 @@
+pub mod Cases
+pub mod Commas
+pub mod CountSteps
+pub mod Escaping
+pub mod GroupSteps
+pub mod GroupTexts
+pub mod JsonLines
+pub mod Parts
+pub mod RowSteps
+pub mod Slashes
+pub mod Spaces

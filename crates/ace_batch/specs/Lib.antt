@@ -1,0 +1,10 @@
+pub mod Counts
+pub mod Escapes
+pub mod GroupViews
+pub mod Groups
+pub mod Json
+pub mod Junit
+pub mod Outcomes
+pub mod Rows
+pub mod Shards
+pub mod Summaries

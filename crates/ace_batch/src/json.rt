@@ -1,0 +1,171 @@
+// The results of many traces as JSON, an object a line.
+ghost use Rattle.std.specs.Prelude.{◌≡◌, ◌++◌, flat_map, OnOk};
+ghost use Rattle.ace_batch.specs.Json.{count_json, end_json, entry_json, head_json, line_json, member_json, message_name, numbers_json, part_json, results_json, signature_name, traces_name, which_json, why_json, words_json};
+
+use crate::entry::Entry;
+use crate::escape::push_json;
+use crate::push::{push, push_number};
+use crate::shard::Shard;
+use ace_io::NoMemory;
+
+/// Adds the number of the line, or that there is none.
+fn push_line(text: &mut Vec<u8>, line: Option<u64>) -> Result<(), NoMemory>
+    ensures { OnOk result (text.new.items ≡ text.old.items ++ line_json line) }
+{
+    match line {
+        Some(line) => push_number(text, line),
+        None => push(text, b"null"),
+    }
+}
+
+/// Adds a member whose value is a text, behind its name.
+#[tactic(auto, unfolding(crate::specs::Json::member_json))]
+fn push_member(text: &mut Vec<u8>, name: &[u8], value: &[u8]) -> Result<(), NoMemory>
+    ensures { OnOk result (text.new.items ≡ text.old.items ++ member_json name.now value.now) }
+{
+    push(text, name)?;
+    push_json(text, value)?;
+    push(text, b"\"")
+}
+
+/// Adds which trace it is, and how its check came out.
+#[tactic(auto, unfolding(crate::specs::Json::which_json))]
+fn push_which(text: &mut Vec<u8>, entry: &Entry) -> Result<(), NoMemory>
+    ensures { OnOk result (text.new.items ≡ text.old.items ++ which_json entry.now) }
+{
+    push_member(text, b"{\"file\":\"", entry.path.as_bytes())?;
+    push_member(text, b",\"verdict\":\"", entry.outcome.verdict())
+}
+
+/// Adds how many events were judged, and the line that is refused or malformed.
+#[tactic(auto, unfolding(crate::specs::Json::numbers_json))]
+fn push_numbers(text: &mut Vec<u8>, entry: &Entry) -> Result<(), NoMemory>
+    ensures { OnOk result (text.new.items ≡ text.old.items ++ numbers_json entry.now) }
+{
+    push(text, b",\"events\":")?;
+    push_number(text, entry.events)?;
+    push(text, b",\"line\":")?;
+    push_line(text, entry.line)
+}
+
+/// The name of the member for the signature.
+#[tactic(auto, unfolding(crate::specs::Json::signature_name))]
+fn signature_name() -> &'static [u8]
+    ensures { result.now ≡ signature_name }
+{
+    b",\"signature\":\""
+}
+
+/// That for what is wrong.
+#[tactic(auto, unfolding(crate::specs::Json::message_name))]
+fn message_name() -> &'static [u8]
+    ensures { result.now ≡ message_name }
+{
+    b",\"message\":\""
+}
+
+/// Adds what is wrong with the trace.
+#[tactic(auto, unfolding(crate::specs::Json::why_json))]
+fn push_why(text: &mut Vec<u8>, entry: &Entry) -> Result<(), NoMemory>
+    ensures { OnOk result (text.new.items ≡ text.old.items ++ why_json entry.now) }
+{
+    push_member(text, signature_name(), entry.signature.as_slice())?;
+    push_member(text, message_name(), entry.message.as_slice())
+}
+
+/// Adds the same, and all that is told of it.
+#[tactic(auto, unfolding(crate::specs::Json::words_json))]
+fn push_words(text: &mut Vec<u8>, entry: &Entry) -> Result<(), NoMemory>
+    ensures { OnOk result (text.new.items ≡ text.old.items ++ words_json entry.now) }
+{
+    push_why(text, entry)?;
+    push_member(text, b",\"text\":\"", entry.text.as_slice())
+}
+
+/// Adds the line of the trace.
+#[tactic(auto, unfolding(crate::specs::Json::entry_json))]
+fn push_entry(text: &mut Vec<u8>, entry: &Entry) -> Result<(), NoMemory>
+    ensures { OnOk result (text.new.items ≡ text.old.items ++ entry_json entry.now) }
+{
+    push_which(text, entry)?;
+    push_numbers(text, entry)?;
+    push_words(text, entry)?;
+    push(text, b"}\n")
+}
+
+/// Adds the line of each trace.
+#[tactic(auto, using(crate::proofs::JsonLines::entry_step))]
+fn push_entries(text: &mut Vec<u8>, entries: &[Entry]) -> Result<(), NoMemory>
+    ensures { OnOk result (text.new.items ≡ text.old.items ++ flat_map entry_json entries.now) }
+{
+    for entry in entries {
+        push_entry(text, entry)?;
+    }
+    Ok(())
+}
+
+/// Adds which part of the list it is.
+#[tactic(auto, unfolding(crate::specs::Json::part_json))]
+fn push_part(text: &mut Vec<u8>, shard: &Shard) -> Result<(), NoMemory>
+    ensures { OnOk result (text.new.items ≡ text.old.items
+        ++ part_json shard.now.part shard.now.parts) }
+{
+    push(text, b"{\"format\":\"ace batch 1\",\"shard\":\"")?;
+    push_number(text, shard.part as u64)?;
+    push(text, b"/")?;
+    push_number(text, shard.parts as u64)
+}
+
+/// The name of the member for the number of traces.
+#[tactic(auto, unfolding(crate::specs::Json::traces_name))]
+fn traces_name() -> &'static [u8]
+    ensures { result.now ≡ traces_name }
+{
+    b"\",\"traces\":"
+}
+
+/// Adds how many traces follow.
+#[tactic(auto, unfolding(crate::specs::Json::count_json))]
+fn push_count(text: &mut Vec<u8>, count: u64) -> Result<(), NoMemory>
+    ensures { OnOk result (text.new.items ≡ text.old.items ++ count_json count) }
+{
+    push(text, traces_name())?;
+    push_number(text, count)?;
+    push(text, b"}\n")
+}
+
+/// Adds the first line.
+#[tactic(auto, unfolding(crate::specs::Json::head_json))]
+fn push_head(text: &mut Vec<u8>, shard: &Shard, count: u64) -> Result<(), NoMemory>
+    ensures { OnOk result (text.new.items ≡ text.old.items
+        ++ head_json shard.now.part shard.now.parts count) }
+{
+    push_part(text, shard)?;
+    push_count(text, count)
+}
+
+/// Adds the last line.
+#[tactic(auto, unfolding(crate::specs::Json::end_json))]
+fn push_end(text: &mut Vec<u8>, count: u64) -> Result<(), NoMemory>
+    ensures { OnOk result (text.new.items ≡ text.old.items ++ end_json count) }
+{
+    push(text, b"{\"end\":")?;
+    push_number(text, count)?;
+    push(text, b"}\n")
+}
+
+/// Adds the results as JSON, an object a line: first which part of the list they are of and how many,
+/// then each trace, and last that these were all.
+///
+/// # Errors
+///
+/// `NoMemory` where there is none for the longer text.
+#[tactic(auto, unfolding(crate::specs::Json::results_json))]
+pub fn push_results(text: &mut Vec<u8>, shard: &Shard, entries: &[Entry]) -> Result<(), NoMemory>
+    ensures { OnOk result (text.new.items ≡ text.old.items
+        ++ results_json shard.now.part shard.now.parts entries.now) }
+{
+    push_head(text, shard, entries.len() as u64)?;
+    push_entries(text, entries)?;
+    push_end(text, entries.len() as u64)
+}
