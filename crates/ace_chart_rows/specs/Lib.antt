@@ -1,0 +1,5 @@
+pub mod Belongs
+pub mod Charts
+pub mod Choice
+pub mod Looks
+pub mod Rows

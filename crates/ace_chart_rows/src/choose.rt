@@ -1,0 +1,53 @@
+// Chooses the line of a chart.
+ghost use Rattle.std.specs.Prelude.{◌-◌, ◌^◌, [], None, IfOk};
+ghost use Rattle.ace_chart_rows.specs.Choice.{IsChosen};
+ghost use Rattle.ace_check.specs.Run.{StandsWithin};
+ghost use Rattle.ace_event.specs.Ports.{IsHeader};
+
+use crate::belongs::event_line;
+use ace_check::{Checker, Step};
+use ace_event::{Event, Header};
+use ace_io::NoMemory;
+use std::alloc::Global;
+
+/// Hears the events up to the first that breaks a rule. The line of that one; where there is none,
+/// the first line.
+fn find(
+    checker: &mut Checker,
+    header: &Header,
+    events: &[Event],
+) -> Result<Option<u32>, NoMemory>
+    requires stands { StandsWithin (2 ^ 64 - 1) checker.old header.now [] None }
+    ensures { IfOk result (IsChosen header.now events.now) }
+{
+    let mut first = None;
+    for event in events {
+        let line = event_line(checker.ports(), event);
+        match checker.feed(event) {
+            Ok(Step::Fine) => first = first.or(line),
+            Ok(Step::Broken { .. }) => return Ok(line),
+            Err(_) => return Err(NoMemory),
+        }
+    }
+    Ok(first)
+}
+
+/// The line that a chart of a trace is of where none is asked for: that of the first event that
+/// breaks a rule, if it has one; of a trace without such an event the first line.
+///
+/// # Errors
+///
+/// `NoMemory` where there is none.
+pub fn chosen_line(
+    alloc: Global,
+    header: Header,
+    events: &[Event],
+) -> Result<Option<u32>, NoMemory>
+    requires { IsHeader header }
+    ensures { IfOk result (IsChosen header events.now) }
+{
+    match Checker::with_lines(alloc, header, usize::MAX) {
+        Ok(mut checker) => find(&mut checker, &header, events),
+        Err(_) => Err(NoMemory),
+    }
+}

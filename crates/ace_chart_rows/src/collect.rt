@@ -1,0 +1,151 @@
+// Collects the rows of a chart.
+ghost use Rattle.std.specs.Prelude.{◌≡◌, ◌<◌, ◌≤◌, ◌-◌, ◌^◌, ◌++◌, ◌∷◌, ℕ, [], Option, None, IfOk, OnOk, length};
+ghost use Rattle.ace_chart.specs.Charts.{IsDrawable};
+ghost use Rattle.ace_chart_rows.specs.Charts.{HasFollowed, HasHeard, IsChartOf};
+ghost use Rattle.ace_chart_rows.specs.Rows.{is_asked, row_of, rows_of};
+ghost use Rattle.ace_check.specs.Run.{StandsWithin};
+ghost use Rattle.ace_event.specs.Ports.{IsHeader};
+ghost use Rattle.ace_event.specs.declared.header.Header.{Header as Head};
+ghost use Rattle.ace_model.specs.Trace.{Trace};
+ghost use Rattle.ace_model.specs.declared.breaks.Break.{Break};
+
+use crate::belongs::{event_line, serves};
+use crate::looks::look_on;
+use ace_chart::{Chart, Row};
+use ace_check::{Checker, Step};
+use ace_event::{Event, Header};
+use std::alloc::Global;
+
+/// Why there is no chart.
+#[derive(Clone, Copy, Debug, PartialEq, Eq)]
+pub enum ChartErr {
+    /// There is no memory for it.
+    NoMemory,
+    /// It has more rows than it may have.
+    TooManyRows,
+}
+
+/// The line of an event is asked for.
+fn is_asked(line: Option<u32>, of_event: Option<u32>) -> bool
+    ensures { result ≡ is_asked line of_event }
+{
+    match (line, of_event) {
+        (None, _) => true,
+        (Some(_), None) => false,
+        (Some(line), Some(of_event)) => of_event == line,
+    }
+}
+
+/// The row of the next event of the trace that the checker stands for.
+fn row_of(checker: &Checker, line: Option<u32>, event: &Event) -> Row
+    ensures { (most : ℕ) (h : Head) (past : Trace) (b : Option Break)
+        → StandsWithin most checker.now h past b
+        → result ≡ row_of h past line event.now }
+{
+    Row {
+        number: checker.count().wrapping_add(1),
+        event: *event,
+        serves: serves(checker.ports(), event),
+        look: look_on(checker.shares().lines(), line),
+    }
+}
+
+/// Adds a row, where no more than so many are there with it.
+fn push_row(rows: &mut Vec<Row>, most: usize, row: Row) -> Result<(), ChartErr>
+    ensures added { OnOk result (rows.new.items ≡ rows.old.items ++ row ∷ []) }
+    ensures few { OnOk result (length rows.new.items ≤ most) }
+{
+    if rows.len() >= most {
+        return Err(ChartErr::TooManyRows);
+    }
+    match rows.push(row) {
+        Ok(()) => Ok(()),
+        Err(_) => Err(ChartErr::NoMemory),
+    }
+}
+
+/// Hears the next event of the trace, and adds its row where its line is asked for. The row of an
+/// event that breaks a rule is returned instead.
+fn hear(
+    checker: &mut Checker,
+    rows: &mut Vec<Row>,
+    most: usize,
+    line: Option<u32>,
+    event: &Event,
+) -> Result<Option<Row>, ChartErr>
+    ensures heard { (h : Head) (past : Trace) → StandsWithin (2 ^ 64 - 1) checker.old h past None
+        → length past < 2 ^ 64 - 2 → rows.old.items ≡ rows_of h past line
+        → IfOk result (HasHeard h past event.now line checker.new rows.new.items) }
+    ensures few { length rows.old.items ≤ most → length rows.new.items ≤ most }
+{
+    let row = row_of(checker, line, event);
+    let asked = is_asked(line, event_line(checker.ports(), event));
+    match checker.feed(event) {
+        Ok(Step::Fine) => {
+            if asked {
+                push_row(rows, most, row)?;
+            }
+            Ok(None)
+        }
+        Ok(Step::Broken { .. }) => Ok(Some(row)),
+        Err(_) => Err(ChartErr::NoMemory),
+    }
+}
+
+/// Hears the events up to the first that breaks a rule, and adds the rows of those whose line is
+/// asked for. The row of the event that breaks a rule is returned.
+fn follow(
+    checker: &mut Checker,
+    rows: &mut Vec<Row>,
+    most: usize,
+    line: Option<u32>,
+    header: &Header,
+    events: &[Event],
+) -> Result<Option<Row>, ChartErr>
+    requires stands { StandsWithin (2 ^ 64 - 1) checker.old header.now [] None }
+    requires none { rows.old.items ≡ [] }
+    ensures followed { IfOk result (HasFollowed header.now events.now line checker.new
+        rows.new.items) }
+    ensures few { length rows.new.items ≤ most }
+{
+    for event in events {
+        if let Some(stop) = hear(checker, rows, most, line, event)? {
+            return Ok(Some(stop));
+        }
+    }
+    Ok(None)
+}
+
+/// The chart of the events of a trace, oldest first, which draws those of the line, or all where
+/// none is asked for: up to the first that breaks a rule, and that one.
+///
+/// # Errors
+///
+/// `TooManyRows` where more events than so many would be drawn before one that breaks a rule, and
+/// `NoMemory` where there is none.
+pub fn chart_of(
+    alloc: Global,
+    header: Header,
+    events: &[Event],
+    line: Option<u32>,
+    most: usize,
+) -> Result<Chart, ChartErr>
+    requires header { IsHeader header }
+    requires most { most ≤ 1000000 }
+    ensures chart { IfOk result (IsChartOf header events.now line) }
+    ensures drawable { IfOk result IsDrawable }
+{
+    let Ok(mut checker) = Checker::with_lines(alloc, header, usize::MAX) else {
+        return Err(ChartErr::NoMemory);
+    };
+    let mut rows = Vec::new(alloc);
+    let stop = follow(&mut checker, &mut rows, most, line, &header, events)?;
+    let last = look_on(checker.shares().lines(), line);
+    Ok(Chart {
+        header,
+        line,
+        rows,
+        stop,
+        last,
+    })
+}
