@@ -13,11 +13,13 @@ bar_sample class x y width words =
     rectangle class (record { x = x; y = y - 7 }) (record { width = width; height = 14 })
     ++ words_element (codes "sample") (record { x = x + 26; y = y + 4 }) words
 
--- the arrows of addresses, data and snoops, and the others
-unfoldable pub request_legend : ℕ → List ℕ
-request_legend y =
+-- the arrows of addresses and data, those of snoops, and the others
+unfoldable pub address_legend : ℕ → List ℕ
+address_legend y =
     message_sample (codes "address") 16 y (codes "address AR AW") ++ message_sample (codes "data") 144 y (codes "data R W CD")
-    ++ message_sample (codes "snoop") 256 y (codes "snoop AC CR")
+
+unfoldable pub snoop_legend : ℕ → List ℕ
+snoop_legend y = message_sample (codes "snoop") 256 y (codes "snoop AC CR")
 
 unfoldable pub answer_legend : ℕ → List ℕ
 answer_legend y =
@@ -32,4 +34,4 @@ bar_legend y =
     ++ bar_sample (codes "behind") 472 y 8 (codes "memory maybe behind")
 
 unfoldable pub legend : ℕ → List ℕ
-legend y = request_legend y ++ answer_legend y ++ bar_legend (y + 24)
+legend y = address_legend y ++ snoop_legend y ++ answer_legend y ++ bar_legend (y + 24)

@@ -1,6 +1,6 @@
 // What the colours, dashes and widths of a chart mean.
 ghost use Rattle.std.specs.Prelude.{◌≡◌, ◌≤◌, ◌++◌, ◌+◌, OnOk, codes};
-ghost use Rattle.ace_chart.specs.Legend.{answer_legend, bar_legend, bar_sample, legend, message_sample, request_legend};
+ghost use Rattle.ace_chart.specs.Legend.{address_legend, answer_legend, bar_legend, bar_sample, legend, message_sample, snoop_legend};
 
 use ace_io::NoMemory;
 use ace_svg::{Point, Size, push_line, push_rectangle, push_words};
@@ -57,14 +57,22 @@ fn push_bar(
     )
 }
 
-/// Adds what the arrows of addresses, data and snoops mean.
-#[tactic(auto, unfolding(crate::specs::Legend::request_legend))]
-fn push_requests(text: &mut Vec<u8>, y: u64) -> Result<(), NoMemory>
+/// Adds what the arrows of addresses and data mean.
+#[tactic(auto, unfolding(crate::specs::Legend::address_legend))]
+fn push_addresses(text: &mut Vec<u8>, y: u64) -> Result<(), NoMemory>
     requires { y ≤ 30000000 }
-    ensures { OnOk result (text.new.items ≡ text.old.items ++ request_legend y) }
+    ensures { OnOk result (text.new.items ≡ text.old.items ++ address_legend y) }
 {
     push_message(text, b"address", 16, y, b"address AR AW")?;
-    push_message(text, b"data", 144, y, b"data R W CD")?;
+    push_message(text, b"data", 144, y, b"data R W CD")
+}
+
+/// Adds what those of snoops mean.
+#[tactic(auto, unfolding(crate::specs::Legend::snoop_legend))]
+fn push_snoops(text: &mut Vec<u8>, y: u64) -> Result<(), NoMemory>
+    requires { y ≤ 30000000 }
+    ensures { OnOk result (text.new.items ≡ text.old.items ++ snoop_legend y) }
+{
     push_message(text, b"snoop", 256, y, b"snoop AC CR")
 }
 
@@ -99,7 +107,8 @@ pub(crate) fn push_legend(text: &mut Vec<u8>, y: u64) -> Result<(), NoMemory>
     requires { (8 ≤ y) × (y ≤ 29999900) }
     ensures { OnOk result (text.new.items ≡ text.old.items ++ legend y) }
 {
-    push_requests(text, y)?;
+    push_addresses(text, y)?;
+    push_snoops(text, y)?;
     push_answers(text, y)?;
     push_bars(text, y + 24)
 }

@@ -208,13 +208,11 @@ fn push_step(
         height: 10,
     };
     push_rectangle(text, style_word(stop, style), corner, size)?;
-    push(text, b"<g class=\"beside\">")?;
     let place = Point {
         x: x + 16,
         y: y + 4,
     };
-    push_words(text, label_class(stop), place, words)?;
-    push(text, b"</g>")
+    push_words(text, beside_class(stop), place, words)
 }
 
 /// Adds what is drawn of an event.

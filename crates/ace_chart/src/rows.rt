@@ -38,6 +38,8 @@ pub struct Chart {
     pub rows: Vec<Row>,
     /// The event that breaks a rule, behind them.
     pub stop: Option<Row>,
+    /// The least rule that it breaks, from 1 to 40.
+    pub rule: Option<u8>,
     /// What there is of the line at the end.
     pub last: Look,
 }

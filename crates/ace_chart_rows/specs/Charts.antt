@@ -1,9 +1,10 @@
 -- What the chart of a trace draws.
-use Rattle.std.specs.Prelude.{◌≡◌, ℕ, ◌++◌, ◌-◌, ◌^◌, List, [], ◌∷◌, Option, Some, None, length, reverse}
+use Rattle.std.specs.Prelude.{◌≡◌, ℕ, ◌++◌, ◌-◌, ◌^◌, List, [], ◌∷◌, Option, Some, None, IsSome, length, reverse}
 use Rattle.ace_chart.specs.declared.rows.Chart.{Chart}
 use Rattle.ace_chart.specs.declared.rows.Row.{Row}
 use Rattle.ace_chart_rows.specs.Looks.{look_on}
 use Rattle.ace_chart_rows.specs.Rows.{row_of, rows_of}
+use Rattle.ace_chart_rows.specs.declared.collect.Stop.{Stop}
 use Rattle.ace_check.specs.Run.{StandsWithin}
 use Rattle.ace_check.specs.declared.checker.Checker.{Checker}
 use Rattle.ace_event.specs.declared.event.Event.{Event}
@@ -12,11 +13,12 @@ use Rattle.ace_model.specs.Accepted.{IsAccepted, least_broken}
 use Rattle.ace_model.specs.Trace.{Trace}
 use Rattle.ace_model.specs.declared.breaks.Break.{Break}
 
--- What comes after the trace that is accepted: nothing; or first an event that breaks a rule, which is the row at the end.
-abbrev pub EndsSo : Header → Trace → Option ℕ → List Event → Option Row → Type 0
-EndsSo h past line rest None = rest ≡ []
-EndsSo h past line rest (Some row) = (e : Event) × (more : List Event) × (k : ℕ) × (rest ≡ e ∷ more)
-    × (least_broken h past e ≡ Some k) × (row ≡ row_of h past line e)
+-- What comes after the trace that is accepted: nothing; or first an event that breaks a rule, which is the row at the end, and the least
+-- rule that it breaks.
+abbrev pub EndsSo : Header → Trace → Option ℕ → List Event → Option Row → Option ℕ → Type 0
+EndsSo h past line rest None rule = (rest ≡ []) × (rule ≡ None)
+EndsSo h past line rest (Some row) rule = (e : Event) × (later : List Event) × (rest ≡ e ∷ later)
+    × (row ≡ row_of h past line e) × (rule ≡ least_broken h past e) × IsSome rule
 
 -- The chart draws of these events, oldest first, those of the line that is asked for, up to the first that breaks a rule, and that one.
 pub record IsChartOf (h : Header) (events : List Event) (line : Option ℕ) (c : Chart) : Type 0 where
@@ -25,25 +27,34 @@ pub record IsChartOf (h : Header) (events : List Event) (line : Option ℕ) (c :
   pub front : events ≡ reverse past ++ rest
   pub accepted : IsAccepted h past
   pub header : c.header ≡ h
-  pub line : c.line ≡ line
+  pub of_line : c.line ≡ line
   pub rows : c.rows.items ≡ rows_of h past line
   pub last : c.last ≡ look_on h past line
-  pub stop : EndsSo h past line rest c.stop
+  pub ending : EndsSo h past line rest c.stop c.rule
+
+-- an event that breaks a rule: its row, and the least rule that it breaks
+abbrev pub row_at_end : Option Stop → Option Row
+row_at_end None = None
+row_at_end (Some stop) = Some stop.row
+
+abbrev pub rule_at_end : Option Stop → Option ℕ
+rule_at_end None = None
+rule_at_end (Some stop) = Some stop.rule
 
 -- The checker stood for a trace of which these were the rows, and has heard an event more: where it breaks no rule, both stand for the
--- longer trace; where it breaks one, its row is told.
-abbrev pub HasHeard : Header → Trace → Event → Option ℕ → Checker → List Row → Option Row → Type 0
+-- longer trace; where it breaks one, its row and the least rule are told.
+abbrev pub HasHeard : Header → Trace → Event → Option ℕ → Checker → List Row → Option Stop → Type 0
 HasHeard h past e line c rows None = StandsWithin (2 ^ 64 - 1) c h (e ∷ past) None × (rows ≡ rows_of h (e ∷ past) line)
-HasHeard h past e line c rows (Some row) = (k : ℕ) × (b : Break) × StandsWithin (2 ^ 64 - 1) c h past (Some b)
-    × (least_broken h past e ≡ Some k) × (row ≡ row_of h past line e) × (rows ≡ rows_of h past line)
+HasHeard h past e line c rows (Some stop) = (b : Break) × StandsWithin (2 ^ 64 - 1) c h past (Some b)
+    × (least_broken h past e ≡ Some stop.rule) × (stop.row ≡ row_of h past line e) × (rows ≡ rows_of h past line)
 
 -- the checker has heard these events, oldest first, up to one that breaks a rule, and these are the rows
-pub record HasFollowed (h : Header) (events : List Event) (line : Option ℕ) (c : Checker) (rows : List Row) (stop : Option Row)
+pub record HasFollowed (h : Header) (events : List Event) (line : Option ℕ) (c : Checker) (rows : List Row) (stop : Option Stop)
     : Type 0 where
   pub past : Trace
   pub rest : List Event
   pub broken : Option Break
   pub front : events ≡ reverse past ++ rest
   pub stands : StandsWithin (2 ^ 64 - 1) c h past broken
-  pub rows : rows ≡ rows_of h past line
-  pub stop : EndsSo h past line rest stop
+  pub drawn : rows ≡ rows_of h past line
+  pub ending : EndsSo h past line rest (row_at_end stop) (rule_at_end stop)

@@ -22,4 +22,4 @@ pub record IsChosen (h : Header) (events : List Event) (line : Option ℕ) : Typ
   pub rest : List Event
   pub front : events ≡ reverse past ++ rest
   pub accepted : IsAccepted h past
-  pub line : IsLineAfter h past rest line
+  pub chosen : IsLineAfter h past rest line

@@ -12,7 +12,7 @@ use ace_portck::{PortCheck, Progress, issued};
 
 /// The transaction, without how far it has come.
 fn transaction_of(progress: Option<&Progress>) -> Option<Transaction>
-    ensures { result ≡ transaction_under (option_copied progress) }
+    ensures { result ≡ transaction_under (option_copied progress.entry) }
 {
     match progress {
         Some(progress) => Some(progress.transaction),
@@ -44,20 +44,14 @@ fn line_of_transaction(transaction: &Option<Transaction>) -> Option<u32>
     ensures { result ≡ line_of_transaction transaction.now }
 {
     match transaction {
-        Some(x) => {
-            if is_line(x) {
-                Some(x.addr)
-            } else {
-                None
-            }
-        }
+        Some(x) => { if is_line(x) { Some(x.addr) } else { None } }
         None => None,
     }
 }
 
 /// The line of a snoop, if it is a line snoop.
 fn line_of_snoop(snoop: Option<&Snoop>) -> Option<u32>
-    ensures { result ≡ line_of_snoop (option_copied snoop) }
+    ensures { result ≡ line_of_snoop (option_copied snoop.entry) }
 {
     match snoop {
         Some(snoop) => {

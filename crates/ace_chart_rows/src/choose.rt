@@ -12,11 +12,7 @@ use std::alloc::Global;
 
 /// Hears the events up to the first that breaks a rule. The line of that one; where there is none,
 /// the first line.
-fn find(
-    checker: &mut Checker,
-    header: &Header,
-    events: &[Event],
-) -> Result<Option<u32>, NoMemory>
+fn find(checker: &mut Checker, header: &Header, events: &[Event]) -> Result<Option<u32>, NoMemory>
     requires stands { StandsWithin (2 ^ 64 - 1) checker.old header.now [] None }
     ensures { IfOk result (IsChosen header.now events.now) }
 {
@@ -38,11 +34,7 @@ fn find(
 /// # Errors
 ///
 /// `NoMemory` where there is none.
-pub fn chosen_line(
-    alloc: Global,
-    header: Header,
-    events: &[Event],
-) -> Result<Option<u32>, NoMemory>
+pub fn chosen_line(alloc: Global, header: Header, events: &[Event]) -> Result<Option<u32>, NoMemory>
     requires { IsHeader header }
     ensures { IfOk result (IsChosen header events.now) }
 {

@@ -1,7 +1,7 @@
 // Collects the rows of a chart.
 ghost use Rattle.std.specs.Prelude.{◌≡◌, ◌<◌, ◌≤◌, ◌-◌, ◌^◌, ◌++◌, ◌∷◌, ℕ, [], Option, None, IfOk, OnOk, length};
 ghost use Rattle.ace_chart.specs.Charts.{IsDrawable};
-ghost use Rattle.ace_chart_rows.specs.Charts.{HasFollowed, HasHeard, IsChartOf};
+ghost use Rattle.ace_chart_rows.specs.Charts.{HasFollowed, HasHeard, IsChartOf, row_at_end, rule_at_end};
 ghost use Rattle.ace_chart_rows.specs.Rows.{is_asked, row_of, rows_of};
 ghost use Rattle.ace_check.specs.Run.{StandsWithin};
 ghost use Rattle.ace_event.specs.Ports.{IsHeader};
@@ -23,6 +23,14 @@ pub enum ChartErr {
     NoMemory,
     /// It has more rows than it may have.
     TooManyRows,
+}
+
+/// An event that breaks a rule.
+#[derive(Clone, Copy)]
+struct Stop {
+    row: Row,
+    /// The least rule that it breaks.
+    rule: u8,
 }
 
 /// The line of an event is asked for.
@@ -64,15 +72,15 @@ fn push_row(rows: &mut Vec<Row>, most: usize, row: Row) -> Result<(), ChartErr>
     }
 }
 
-/// Hears the next event of the trace, and adds its row where its line is asked for. The row of an
-/// event that breaks a rule is returned instead.
+/// Hears the next event of the trace, and adds its row where its line is asked for. An event that
+/// breaks a rule is returned instead.
 fn hear(
     checker: &mut Checker,
     rows: &mut Vec<Row>,
     most: usize,
     line: Option<u32>,
     event: &Event,
-) -> Result<Option<Row>, ChartErr>
+) -> Result<Option<Stop>, ChartErr>
     ensures heard { (h : Head) (past : Trace) → StandsWithin (2 ^ 64 - 1) checker.old h past None
         → length past < 2 ^ 64 - 2 → rows.old.items ≡ rows_of h past line
         → IfOk result (HasHeard h past event.now line checker.new rows.new.items) }
@@ -87,13 +95,13 @@ fn hear(
             }
             Ok(None)
         }
-        Ok(Step::Broken { .. }) => Ok(Some(row)),
+        Ok(Step::Broken { rule, .. }) => Ok(Some(Stop { row, rule })),
         Err(_) => Err(ChartErr::NoMemory),
     }
 }
 
 /// Hears the events up to the first that breaks a rule, and adds the rows of those whose line is
-/// asked for. The row of the event that breaks a rule is returned.
+/// asked for. The event that breaks a rule is returned.
 fn follow(
     checker: &mut Checker,
     rows: &mut Vec<Row>,
@@ -101,7 +109,7 @@ fn follow(
     line: Option<u32>,
     header: &Header,
     events: &[Event],
-) -> Result<Option<Row>, ChartErr>
+) -> Result<Option<Stop>, ChartErr>
     requires stands { StandsWithin (2 ^ 64 - 1) checker.old header.now [] None }
     requires none { rows.old.items ≡ [] }
     ensures followed { IfOk result (HasFollowed header.now events.now line checker.new
@@ -114,6 +122,26 @@ fn follow(
         }
     }
     Ok(None)
+}
+
+/// The row of the event that breaks a rule.
+fn row_at_end(stop: &Option<Stop>) -> Option<Row>
+    ensures { result ≡ row_at_end stop.now }
+{
+    match stop {
+        Some(stop) => Some(stop.row),
+        None => None,
+    }
+}
+
+/// The least rule that it breaks.
+fn rule_at_end(stop: &Option<Stop>) -> Option<u8>
+    ensures { result ≡ rule_at_end stop.now }
+{
+    match stop {
+        Some(stop) => Some(stop.rule),
+        None => None,
+    }
 }
 
 /// The chart of the events of a trace, oldest first, which draws those of the line, or all where
@@ -145,7 +173,8 @@ pub fn chart_of(
         header,
         line,
         rows,
-        stop,
+        stop: row_at_end(&stop),
+        rule: rule_at_end(&stop),
         last,
     })
 }

@@ -21,10 +21,8 @@ fn may_lose_data(granted: &Option<Transaction>) -> bool
 {
     match granted {
         Some(x) => {
-            matches!(
-                read_kind(x),
-                Some(ArKind::MakeUnique | ArKind::MakeInvalid)
-            ) || matches!(write_kind(x), Some(AwKind::WriteLineUnique))
+            matches!(read_kind(x), Some(ArKind::MakeUnique | ArKind::MakeInvalid))
+                || matches!(write_kind(x), Some(AwKind::WriteLineUnique))
         }
         None => false,
     }

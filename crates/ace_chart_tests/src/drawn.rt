@@ -123,7 +123,7 @@ fn writes_svg(rt: HostRuntime) -> Result<(), Fail> {
         b"<title>granted to ReadUnique of port 0</title>\n",
         b"<title>event 4, line 6 of the trace</title>\n<text class=\"number\" x=\"96\" y=\"206\">4</text>\n\
 <rect class=\"stop\" x=\"345\" y=\"197\" width=\"10\" height=\"10\"/>\n\
-<g class=\"beside\"><text class=\"stop-label\" x=\"366\" y=\"206\">G p1 ReadUnique</text>\n</g></g>\n",
+<text class=\"stop-beside\" x=\"366\" y=\"206\">G p1 ReadUnique</text>\n</g>\n",
     ];
     let kept: [&[u8]; 4] = [
         b"<text class=\"label\" x=\"250\" y=\"270\">RK ReadUnique UC</text>\n",
