@@ -4,6 +4,7 @@ use Rattle.std.proofs.lemmas.List.{drop_more, reverse-append, reverse-reverse, t
 use Rattle.ace_chart.specs.declared.rows.Row.{Row}
 use Rattle.ace_chart_rows.specs.Belongs.{event_line}
 use Rattle.ace_chart_rows.specs.Charts.{HasFollowed, HasHeard}
+use Rattle.ace_chart_rows.specs.Fed.{HasFed}
 use Rattle.ace_chart_rows.specs.Rows.{is_asked, row_at, row_of, rows_of}
 use Rattle.ace_chart_rows.specs.declared.collect.Stop.{Stop}
 use Rattle.ace_check.specs.Run.{StandsWithin}
@@ -33,19 +34,37 @@ row_left : (h : Header) (past : Trace) (line : Option ℕ) (e : Event) → is_as
     → rows_of h (e ∷ past) line ≡ rows_of h past line
 row_left h past line e left = rw left refl
 
-pub heard_asked : (h : Header) (past : Trace) (line : Option ℕ) (e : Event) (c : Checker) (asked : Bool) (row : Row) (old new : List Row)
-    → asked ≡ true → asked ≡ is_asked line (event_line h past e) → row ≡ row_of h past line e → new ≡ old ++ row ∷ []
+pub heard_fine : (h : Header) (past : Trace) (line : Option ℕ) (e : Event) (c : Checker) (asked : Bool) (row : Row) (old new : List Row)
+    → asked ≡ is_asked line (event_line h past e) → row ≡ row_of h past line e
+    → new ≡ (if asked then old ++ row ∷ [] else old)
     → old ≡ rows_of h past line → StandsWithin (2 ^ 64 - 1) c h (e ∷ past) None → HasHeard h past e line c new None
-heard_asked h past line e c asked row old new yes is same added before stands =
-    (stands, added ∙ rw (before, same) (sym (row_asked h past line e (sym is ∙ yes))))
+heard_fine h past line e c true row old new is same added before stands =
+    (stands, added ∙ rw (before, same) (sym (row_asked h past line e (sym is))))
+heard_fine h past line e c false row old new is same added before stands =
+    (stands, added ∙ before ∙ sym (row_left h past line e (sym is)))
 
-pub heard_left : (h : Header) (past : Trace) (line : Option ℕ) (e : Event) (c : Checker) (asked : Bool) (old : List Row)
-    → asked ≡ false → asked ≡ is_asked line (event_line h past e)
-    → old ≡ rows_of h past line → StandsWithin (2 ^ 64 - 1) c h (e ∷ past) None → HasHeard h past e line c old None
-heard_left h past line e c asked old no is before stands =
-    (stands, before ∙ sym (row_left h past line e (sym is ∙ no)))
-
-pub heard_break : (h : Header) (past : Trace) (line : Option ℕ) (e : Event) (c : Checker) (b : Break) (stop : Stop) (rows : List Row)
-    → StandsWithin (2 ^ 64 - 1) c h past (Some b) → least_broken h past e ≡ Some stop.rule → stop.row ≡ row_of h past line e
+pub heard_break : (h : Header) (past : Trace) (line : Option ℕ) (e : Event) (c : Checker) (stop : Stop) (rows : List Row)
+    → HasFed h past e c (Some stop.rule) → stop.row ≡ row_of h past line e
     → rows ≡ rows_of h past line → HasHeard h past e line c rows (Some stop)
-heard_break h past line e c b stop rows stands broken row same = (b, stands, broken, row, same)
+heard_break h past line e c stop rows (b, stands, broken) row same = (b, stands, broken, row, same)
+
+-- the next event was heard, and breaks no rule
+pub follows_next : (h : Header) (events : List Event) (i : ℕ) (d : Event) (line : Option ℕ) (c : Checker) (rows : List Row) → i < length events
+    → HasHeard h (reverse (take i events)) (get_or events i d) line c rows None
+    → StandsWithin (2 ^ 64 - 1) c h (reverse (take (i + 1) events)) None × (rows ≡ rows_of h (reverse (take (i + 1) events)) line)
+follows_next h events i d line c rows within heard =
+    subst (λ t. StandsWithin (2 ^ 64 - 1) c h t None × (rows ≡ rows_of h t line)) (sym (newest events i d within)) heard
+
+-- it breaks a rule
+pub followed_to_break : (h : Header) (events : List Event) (i : ℕ) (d : Event) (line : Option ℕ) (c : Checker) (rows : List Row) (stop : Stop)
+    → i < length events → HasHeard h (reverse (take i events)) (get_or events i d) line c rows (Some stop)
+    → HasFollowed h events line c rows (Some stop)
+followed_to_break h events i d line c rows stop within (b, stands, broken, row, same) = record {
+  past = reverse (take i events);
+  rest = get_or events i d ∷ drop (i + 1) events;
+  broken = Some b;
+  front = front_of events i ∙ ap (λ t. reverse (reverse (take i events)) ++ t) (drop_more events i d within);
+  stands = stands;
+  drawn = same;
+  ending = (get_or events i d, drop (i + 1) events, refl, row, sym broken, tt);
+}

@@ -1,2 +1,4 @@
-pub mod Belonging
+pub mod Choosing
 pub mod Following
+pub mod Numbered
+pub mod States

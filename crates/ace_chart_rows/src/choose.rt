@@ -4,8 +4,8 @@ ghost use Rattle.ace_chart_rows.specs.Choice.{IsChosen};
 ghost use Rattle.ace_check.specs.Run.{StandsWithin};
 ghost use Rattle.ace_event.specs.Ports.{IsHeader};
 
-use crate::belongs::event_line;
-use ace_check::{Checker, Step};
+use crate::told::{feed, next_line};
+use ace_check::Checker;
 use ace_event::{Event, Header};
 use ace_io::NoMemory;
 use std::alloc::Global;
@@ -18,11 +18,11 @@ fn find(checker: &mut Checker, header: &Header, events: &[Event]) -> Result<Opti
 {
     let mut first = None;
     for event in events {
-        let line = event_line(checker.ports(), event);
-        match checker.feed(event) {
-            Ok(Step::Fine) => first = first.or(line),
-            Ok(Step::Broken { .. }) => return Ok(line),
-            Err(_) => return Err(NoMemory),
+        let line = next_line(checker, event);
+        match feed(checker, event) {
+            Ok(None) => first = first.or(line),
+            Ok(Some(_)) => return Ok(line),
+            Err(NoMemory) => return Err(NoMemory),
         }
     }
     Ok(first)

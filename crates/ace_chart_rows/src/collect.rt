@@ -1,5 +1,5 @@
 // Collects the rows of a chart.
-ghost use Rattle.std.specs.Prelude.{◌≡◌, ◌<◌, ◌≤◌, ◌-◌, ◌^◌, ◌++◌, ◌∷◌, ℕ, [], Option, None, IfOk, OnOk, length};
+ghost use Rattle.std.specs.Prelude.{◌≡◌, ◌<◌, ◌≤◌, ◌-◌, ◌^◌, ◌++◌, ◌∷◌, ℕ, [], Option, None, IfOk, OnOk, if◌then◌else◌, length};
 ghost use Rattle.ace_chart.specs.Charts.{IsDrawable};
 ghost use Rattle.ace_chart_rows.specs.Charts.{HasFollowed, HasHeard, IsChartOf, row_at_end, rule_at_end};
 ghost use Rattle.ace_chart_rows.specs.Rows.{is_asked, row_of, rows_of};
@@ -9,11 +9,11 @@ ghost use Rattle.ace_event.specs.declared.header.Header.{Header as Head};
 ghost use Rattle.ace_model.specs.Trace.{Trace};
 ghost use Rattle.ace_model.specs.declared.breaks.Break.{Break};
 
-use crate::belongs::{event_line, serves};
-use crate::looks::look_on;
+use crate::told::{feed, look_now, next_line, next_number, next_serves};
 use ace_chart::{Chart, Row};
-use ace_check::{Checker, Step};
+use ace_check::Checker;
 use ace_event::{Event, Header};
+use ace_io::NoMemory;
 use std::alloc::Global;
 
 /// Why there is no chart.
@@ -51,10 +51,10 @@ fn row_of(checker: &Checker, line: Option<u32>, event: &Event) -> Row
         → result ≡ row_of h past line event.now }
 {
     Row {
-        number: checker.count().wrapping_add(1),
+        number: next_number(checker),
         event: *event,
-        serves: serves(checker.ports(), event),
-        look: look_on(checker.shares().lines(), line),
+        serves: next_serves(checker, event),
+        look: look_now(checker, line),
     }
 }
 
@@ -72,6 +72,25 @@ fn push_row(rows: &mut Vec<Row>, most: usize, row: Row) -> Result<(), ChartErr>
     }
 }
 
+/// Adds a row that is asked for.
+fn add_row(
+    rows: &mut Vec<Row>,
+    most: usize,
+    asked: bool,
+    row: Row,
+) -> Result<Option<Stop>, ChartErr>
+    ensures none { IfOk result (λ stop. stop ≡ None) }
+    ensures added { IfOk result (λ _. rows.new.items
+        ≡ (if asked then rows.old.items ++ row ∷ [] else rows.old.items)) }
+    ensures few { length rows.old.items ≤ most
+        → IfOk result (λ _. length rows.new.items ≤ most) }
+{
+    if asked {
+        push_row(rows, most, row)?;
+    }
+    Ok(None)
+}
+
 /// Hears the next event of the trace, and adds its row where its line is asked for. An event that
 /// breaks a rule is returned instead.
 fn hear(
@@ -84,19 +103,15 @@ fn hear(
     ensures heard { (h : Head) (past : Trace) → StandsWithin (2 ^ 64 - 1) checker.old h past None
         → length past < 2 ^ 64 - 2 → rows.old.items ≡ rows_of h past line
         → IfOk result (HasHeard h past event.now line checker.new rows.new.items) }
-    ensures few { length rows.old.items ≤ most → length rows.new.items ≤ most }
+    ensures few { length rows.old.items ≤ most
+        → IfOk result (λ _. length rows.new.items ≤ most) }
 {
     let row = row_of(checker, line, event);
-    let asked = is_asked(line, event_line(checker.ports(), event));
-    match checker.feed(event) {
-        Ok(Step::Fine) => {
-            if asked {
-                push_row(rows, most, row)?;
-            }
-            Ok(None)
-        }
-        Ok(Step::Broken { rule, .. }) => Ok(Some(Stop { row, rule })),
-        Err(_) => Err(ChartErr::NoMemory),
+    let asked = is_asked(line, next_line(checker, event));
+    match feed(checker, event) {
+        Ok(None) => add_row(rows, most, asked, row),
+        Ok(Some(rule)) => Ok(Some(Stop { row, rule })),
+        Err(NoMemory) => Err(ChartErr::NoMemory),
     }
 }
 
@@ -114,7 +129,7 @@ fn follow(
     requires none { rows.old.items ≡ [] }
     ensures followed { IfOk result (HasFollowed header.now events.now line checker.new
         rows.new.items) }
-    ensures few { length rows.new.items ≤ most }
+    ensures few { IfOk result (λ _. length rows.new.items ≤ most) }
 {
     for event in events {
         if let Some(stop) = hear(checker, rows, most, line, event)? {
@@ -168,7 +183,7 @@ pub fn chart_of(
     };
     let mut rows = Vec::new(alloc);
     let stop = follow(&mut checker, &mut rows, most, line, &header, events)?;
-    let last = look_on(checker.shares().lines(), line);
+    let last = look_now(&checker, line);
     Ok(Chart {
         header,
         line,

@@ -6,6 +6,7 @@ mod belongs;
 mod choose;
 mod collect;
 mod looks;
+mod told;
 
 pub use choose::chosen_line;
 pub use collect::{ChartErr, chart_of};
