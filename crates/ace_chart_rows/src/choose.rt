@@ -1,14 +1,25 @@
 // Chooses the line of a chart.
-ghost use Rattle.std.specs.Prelude.{◌-◌, ◌^◌, [], None, IfOk};
+ghost use Rattle.std.specs.Prelude.{◌≡◌, ◌-◌, ◌^◌, [], None, IfOk};
 ghost use Rattle.ace_chart_rows.specs.Choice.{IsChosen};
 ghost use Rattle.ace_check.specs.Run.{StandsWithin};
 ghost use Rattle.ace_event.specs.Ports.{IsHeader};
+ghost use Rattle.ace_model.specs.Trace.{newer};
 
 use crate::told::{feed, next_line};
 use ace_check::Checker;
 use ace_event::{Event, Header};
 use ace_io::NoMemory;
 use std::alloc::Global;
+
+/// The first line, if there is one, or else the other.
+fn first_of(first: Option<u32>, line: Option<u32>) -> Option<u32>
+    ensures { result ≡ newer first line }
+{
+    match first {
+        Some(first) => Some(first),
+        None => line,
+    }
+}
 
 /// Hears the events up to the first that breaks a rule. The line of that one; where there is none,
 /// the first line.
@@ -20,7 +31,7 @@ fn find(checker: &mut Checker, header: &Header, events: &[Event]) -> Result<Opti
     for event in events {
         let line = next_line(checker, event);
         match feed(checker, event) {
-            Ok(None) => first = first.or(line),
+            Ok(None) => first = first_of(first, line),
             Ok(Some(_)) => return Ok(line),
             Err(NoMemory) => return Err(NoMemory),
         }

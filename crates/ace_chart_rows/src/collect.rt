@@ -132,8 +132,10 @@ fn follow(
     ensures few { IfOk result (λ _. length rows.new.items ≤ most) }
 {
     for event in events {
-        if let Some(stop) = hear(checker, rows, most, line, event)? {
-            return Ok(Some(stop));
+        match hear(checker, rows, most, line, event) {
+            Ok(None) => {}
+            Ok(Some(stop)) => return Ok(Some(stop)),
+            Err(error) => return Err(error),
         }
     }
     Ok(None)

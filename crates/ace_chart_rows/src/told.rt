@@ -1,7 +1,7 @@
 // What a checker tells of the trace that it stands for.
 ghost use Rattle.std.specs.Prelude.{◌≡◌, ◌+◌, ◌<◌, ◌-◌, ◌^◌, ℕ, Option, None, IfOk, length};
 ghost use Rattle.ace_chart_rows.specs.Belongs.{event_line, serves_in};
-ghost use Rattle.ace_chart_rows.specs.Fed.{HasFed};
+ghost use Rattle.ace_chart_rows.specs.Fed.{HasFed, rule_of};
 ghost use Rattle.ace_chart_rows.specs.Looks.{look_on};
 ghost use Rattle.ace_check.specs.Run.{StandsWithin};
 ghost use Rattle.ace_event.specs.declared.header.Header.{Header};
@@ -48,14 +48,23 @@ pub(crate) fn look_now(checker: &Checker, line: Option<u32>) -> Look
     look_on(checker.shares().lines(), line)
 }
 
+/// The least rule that is broken, if one is.
+fn rule_of(step: Step) -> Option<u8>
+    ensures { result ≡ rule_of step }
+{
+    match step {
+        Step::Fine => None,
+        Step::Broken { rule, .. } => Some(rule),
+    }
+}
+
 /// Hears the next event. The least rule that it breaks, if it breaks one.
 pub(crate) fn feed(checker: &mut Checker, event: &Event) -> Result<Option<u8>, NoMemory>
     ensures { (h : Header) (past : Trace) → StandsWithin (2 ^ 64 - 1) checker.old h past None
         → length past < 2 ^ 64 - 2 → IfOk result (HasFed h past event.now checker.new) }
 {
     match checker.feed(event) {
-        Ok(Step::Fine) => Ok(None),
-        Ok(Step::Broken { rule, .. }) => Ok(Some(rule)),
+        Ok(step) => Ok(rule_of(step)),
         Err(_) => Err(NoMemory),
     }
 }
