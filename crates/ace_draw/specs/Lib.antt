@@ -1,3 +1,0 @@
-pub mod Captions
-pub mod Pictures
-pub mod Recorded
