@@ -1,0 +1,11 @@
+use Rattle.std.proofs.Common.{◌≡◌, ◌≤◌, ◌-◌, ◌++◌}
+use Rattle.ace_chart.specs.Lifelines.{port_lifelines}
+use Rattle.ace_chart.proofs.lifelines.push_ports.Given as goal
+
+-- the ports so far, and the others
+abbrev pub invariant-loop-port : goal.invariant-loop-port
+invariant-loop-port l = record {
+  few : l.port ≤ l.header.ports;
+  lifelines : l.text.items ++ port_lifelines l.header l.bottom l.port (l.header.ports - l.port)
+      ≡ l.initial.text.items ++ port_lifelines l.header l.bottom 0 l.header.ports;
+}

@@ -1,0 +1,76 @@
+-- The text of a chart.
+use Rattle.std.specs.Prelude.{ℕ, ◌+◌, ◌≤◌, ◌++◌, if◌then◌else◌, List, [], codes, decimal, length, is_none, is_some}
+use Rattle.std.specs.List.{AllByRecursion}
+use Rattle.ace_svg.specs.Elements.{rectangle, words_element}
+use Rattle.ace_svg.specs.declared.geometry.Size.{Size}
+use Rattle.ace_chart.specs.Cells.{last_cells, rows_cells}
+use Rattle.ace_chart.specs.Legend.{legend}
+use Rattle.ace_chart.specs.Lifelines.{lifelines}
+use Rattle.ace_chart.specs.Marks.{IsNumbered, IsStopNumbered, band, rows_text, stop_text}
+use Rattle.ace_chart.specs.Places.{height, width, y_of}
+use Rattle.ace_chart.specs.Styles.{styles}
+use Rattle.ace_chart.specs.declared.rows.Chart.{Chart}
+
+-- It has a million rows at most, and its events have the numbers of events.
+pub record IsDrawable (c : Chart) : Type 0 where
+  pub few : length c.rows.items ≤ 1000000
+  pub numbers : AllByRecursion IsNumbered c.rows.items
+  pub stop : IsStopNumbered c.stop
+
+-- how many rows it has, the event that breaks a rule among them
+abbrev pub count_of : Chart → ℕ
+count_of c = if is_some c.stop then length c.rows.items + 1 else length c.rows.items
+
+-- the beginning of a picture of a size
+unfoldable pub opening_start : List ℕ
+opening_start = codes "<svg xmlns=\"http://www.w3.org/2000/svg\" viewBox=\"0 0 "
+
+unfoldable pub view_box : Size → List ℕ
+view_box size = opening_start ++ decimal size.width ++ codes " " ++ decimal size.height
+
+unfoldable pub opening : Size → List ℕ
+opening size =
+    view_box size ++ codes "\" width=\"" ++ decimal size.width ++ codes "\" height=\"" ++ decimal size.height ++ codes "\">\n"
+
+-- of so many ports and rows
+unfoldable pub page : ℕ → ℕ → List ℕ
+page ports rows =
+    let size : Size = record { width = width ports; height = height rows } in
+    opening size ++ styles ++ rectangle (codes "page") (record { x = 0; y = 0 }) size
+
+-- the name of the trace, and the verdict on it
+unfoldable pub heading : List ℕ → List ℕ → List ℕ
+heading name verdict =
+    words_element (codes "heading") (record { x = 16; y = 28 }) name
+    ++ words_element (codes "verdict") (record { x = 16; y = 50 }) verdict
+
+-- below so many rows: what is wrong, where the rule is kept, and the legend
+unfoldable pub foot : ℕ → List ℕ → List ℕ → List ℕ
+foot rows wrong kept =
+    words_element (codes "wrong") (record { x = 16; y = y_of rows + 36 }) wrong
+    ++ words_element (codes "verdict") (record { x = 16; y = y_of rows + 56 }) kept ++ legend (y_of rows + 96)
+
+-- what is behind the events: the page, the heading and the lifelines
+unfoldable pub frame : Chart → List ℕ → List ℕ → List ℕ
+frame c name verdict =
+    page c.header.ports (count_of c) ++ heading name verdict ++ lifelines c.header (y_of (count_of c))
+
+-- the bars of the line, if there is one
+unfoldable pub line_bars : Chart → List ℕ
+line_bars c =
+    if is_none c.line then []
+    else rows_cells c.header.ports 0 c.rows.items ++ last_cells c.header.ports (length c.rows.items) c.stop c.last
+
+-- the band of the event that breaks a rule, if there is one
+unfoldable pub bands : Chart → List ℕ
+bands c = if is_none c.stop then [] else band c.header.ports (length c.rows.items)
+
+-- the events
+unfoldable pub events : Chart → List ℕ
+events c =
+    rows_text c.header.ports 0 c.rows.items ++ stop_text c.header.ports (length c.rows.items) c.stop
+
+-- the chart under the name of its trace and the verdict on it, with what is wrong and where the rule is kept
+unfoldable pub chart_text : Chart → List ℕ → List ℕ → List ℕ → List ℕ → List ℕ
+chart_text c name verdict wrong kept =
+    frame c name verdict ++ bands c ++ line_bars c ++ events c ++ foot (count_of c) wrong kept ++ codes "</svg>\n"

@@ -1,0 +1,19 @@
+//! Sequence charts of one line of a trace, as SVG: what is drawn, where, and its text.
+#![tactic(auto)]
+
+mod cells;
+mod chart;
+mod frame;
+mod kind_words;
+mod labels;
+pub mod laws;
+mod legend;
+mod lifelines;
+mod marks;
+mod places;
+mod rows;
+mod styles;
+
+pub use chart::chart_text;
+pub use places::{Lifeline, MOST_ROWS};
+pub use rows::{Chart, Look, Row};

@@ -1,0 +1,4 @@
+pub mod Choosing
+pub mod Following
+pub mod Numbered
+pub mod States

@@ -1,0 +1,6 @@
+pub mod Belongs
+pub mod Charts
+pub mod Choice
+pub mod Fed
+pub mod Looks
+pub mod Rows

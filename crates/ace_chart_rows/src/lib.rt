@@ -1,0 +1,12 @@
+//! What a chart of a trace draws: the events of a line, and what there is of the line before each,
+//! by what the checker keeps of the trace.
+#![tactic(auto)]
+
+mod belongs;
+mod choose;
+mod collect;
+mod looks;
+mod told;
+
+pub use choose::chosen_line;
+pub use collect::{ChartErr, chart_of};
