@@ -1,8 +1,13 @@
+pub mod BatchDone
+pub mod BatchNumbers
+pub mod BatchWordSteps
 pub mod Checking
 pub mod Concluding
+pub mod Examining
 pub mod ExplainWords
 pub mod FoundBytes
 pub mod Lines
+pub mod ListReading
 pub mod Notes
 pub mod OneAsked
 pub mod Peeking

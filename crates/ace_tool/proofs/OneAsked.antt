@@ -12,7 +12,7 @@ use Rattle.ace_tool.specs.ExplainAsked.{ExplainAsked, explain_asked}
 use Rattle.ace_tool.specs.Requests.{Asks, Wish, Help, HelpOfCheck, HelpOfExplain, HelpOfRule, Version, Check, Explain, Pages}
 use Rattle.ace_tool.specs.declared.check_options.EndRules.{EndRules}
 
-same_number : (word : List ℕ) (n m : ℕ) → IsNumber word n → IsNumber word m → n ≡ m
+pub same_number : (word : List ℕ) (n m : ℕ) → IsNumber word n → IsNumber word m → n ≡ m
 same_number word n m one other =
     sym (decimal_is_IsNumeral n one.0).1 ∙ ap (digits_value 10) (sym one.1 ∙ other.1) ∙ (decimal_is_IsNumeral m other.0).1
 

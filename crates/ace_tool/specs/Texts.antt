@@ -3,7 +3,7 @@ use Rattle.std.specs.Prelude.{ℕ, List, codes}
 
 abbrev pub help : List ℕ
 help =
-    codes "usage: acetool COMMAND [OPTION].. [FILE]..\n\nChecks traces of AMBA ACE. The verdict is always that of `ace check`.\n\n  check [FILE]..   the verdict on each trace\n  explain [FILE]   why a trace is refused: the event, the rule, and the clause of it that is broken\n  rule [NAME]..    what a rule asks: K12 with its clauses, or K12d; without a name the rules\n\nFILE is a trace; `-`, or no file, is standard input. `acetool COMMAND --help` tells more, and\n`acetool --version` the version.\n"
+    codes "usage: acetool COMMAND [OPTION].. [FILE]..\n\nChecks traces of AMBA ACE. The verdict is always that of `ace check`.\n\n  check [FILE]..   the verdict on each trace\n  batch FILE..     the same of many traces, in threads, with a summary and files for a CI\n  explain [FILE]   why a trace is refused: the event, the rule, and the clause of it that is broken\n  rule [NAME]..    what a rule asks: K12 with its clauses, or K12d; without a name the rules\n\nFILE is a trace; `-`, or no file, is standard input. `acetool COMMAND --help` tells more, and\n`acetool --version` the version.\n"
 
 abbrev pub check_help : List ℕ
 check_help =

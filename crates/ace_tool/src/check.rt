@@ -19,7 +19,7 @@ use ace_verdict::Verdict;
 use std::alloc::Global;
 
 /// How many events an accepted trace has.
-fn accepted_of(report: &Report) -> Option<u64>
+pub(crate) fn accepted_of(report: &Report) -> Option<u64>
     ensures { result ≡ accepted_of report.now }
 {
     match report {

@@ -1,6 +1,7 @@
 // The words behind `check`, taken one after another.
-ghost use Rattle.std.specs.Prelude.{◌≡◌, ◌≤◌, Some, None, true, length, map, string_bytes, IfOk, IfSome, MatchOption};
-ghost use Rattle.ace_tool.specs.Asked.{AreOptions, CheckAsked, IsChecked, has_hyphen, is_input, may_have, nothing, with_all, with_more, with_option, with_trace, with_value_of, with_valued, with_word};
+ghost use Rattle.std.specs.Prelude.{◌≡◌, ◌≤◌, ◌||◌, Some, None, true, is_some, length, map, string_bytes, IfOk, IfSome, MatchOption};
+ghost use Rattle.ace_tool.specs.Asked.{AreOptions, CheckAsked, IsChecked, Options, has_hyphen, is_input, may_have, nothing, with_all, with_more, with_option, with_trace, with_value_of, with_valued, with_word};
+ghost use Rattle.ace_tool.specs.BatchAsked.{AreOfFiles};
 ghost use Rattle.ace_tool.specs.Told.{check_of, if_right, options_of, side_of};
 
 use crate::check_call::{CheckCall, some_traces};
@@ -54,7 +55,7 @@ pub(crate) fn has_hyphen(word: &str) -> bool
 
 impl<'a> CheckWords<'a> {
     /// No word has come.
-    fn new(alloc: Global) -> CheckWords<'a>
+    pub(crate) fn new(alloc: Global) -> CheckWords<'a>
         ensures { result ≡ nothing }
     {
         CheckWords {
@@ -136,7 +137,7 @@ impl<'a> CheckWords<'a> {
     }
 
     /// Takes the next word, and says whether it is right there.
-    fn take(&mut self, word: &'a str) -> Result<bool, NoMemory>
+    pub(crate) fn take(&mut self, word: &'a str) -> Result<bool, NoMemory>
         ensures { IfOk result (λ right. with_more word.entry.now self.old
             ≡ if_right right self.new) }
     {
@@ -179,6 +180,30 @@ impl<'a> CheckWords<'a> {
         match self.given.options() {
             Some(options) if options.side.may_have(self.traces.len()) => Some(options),
             _ => None,
+        }
+    }
+
+    /// Whether the next word is taken as it is: it is a name behind `--`, or the value of an option.
+    pub(crate) fn takes_any(&self) -> bool
+        ensures { result ≡ (self.now.names_only || is_some self.now.waiting) }
+    {
+        self.names_only || self.waiting.is_some()
+    }
+
+    /// The names of files, and how they are to be checked, if the words are right: standard input isn't
+    /// one of them, and they name no side file.
+    pub(crate) fn files(self) -> Option<(Vec<&'a str>, CheckOptions<'a>)>
+        ensures { MatchOption result
+            ((options : Options) → ¬ AreOfFiles self.entry options)
+            (λ f. AreOfFiles self.entry (options_of f.1)
+            × (map (λ name. name.now) f.0.items ≡ self.entry.traces)) }
+    {
+        if self.waiting.is_some() || self.has_input || self.given.has_side() {
+            return None;
+        }
+        match self.given.options() {
+            Some(options) => Some((self.traces, options)),
+            None => None,
         }
     }
 

@@ -17,11 +17,11 @@ use arrayvec::ArrayString;
 
 /// What is said of a trace: a text that is made for it, and three that are there.
 #[derive(Drop)]
-struct Said<'a> {
-    made: ArrayString<384>,
-    front: &'a str,
-    name: &'a str,
-    back: &'a str,
+pub(crate) struct Said<'a> {
+    pub(crate) made: ArrayString<384>,
+    pub(crate) front: &'a str,
+    pub(crate) name: &'a str,
+    pub(crate) back: &'a str,
 }
 
 /// Gives six pieces and a line feed as one text.
@@ -47,7 +47,7 @@ fn give_six<'a, K: Sink>(
 }
 
 /// What is said of the trace of the file of this name.
-fn said_of<'a>(name: &'a str, report: Report) -> Said<'a>
+pub(crate) fn said_of<'a>(name: &'a str, report: Report) -> Said<'a>
     ensures { result.made.bytes ++ result.front.now ++ result.name.now ++ result.back.now
         ≡ report_text name.entry.now report }
 {

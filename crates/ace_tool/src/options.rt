@@ -1,5 +1,5 @@
 // The options of `check`.
-ghost use Rattle.std.specs.Prelude.{◌≡◌, ◌≤◌, ℕ, Some, bytes_eq, is_none, option_map, IfSome, IsTrue, MatchOption};
+ghost use Rattle.std.specs.Prelude.{◌≡◌, ◌≤◌, ℕ, Some, bytes_eq, is_none, is_some, option_map, IfSome, IsTrue, MatchOption};
 ghost use Rattle.std.specs.Map.{lookup};
 ghost use Rattle.ace_tool.specs.Asked.{AreOptions, IsLimit, Options, may_have, side_said};
 ghost use Rattle.ace_tool.specs.Options.{flags, none_given, valued, with_flag, with_value};
@@ -96,7 +96,7 @@ impl<'a> Model for GivenOptions<'a> {
 }
 
 /// Keeps the value if none was kept, and says whether none was.
-fn keep_once<'a>(kept: &mut Option<&'a str>, value: &'a str) -> bool
+pub(crate) fn keep_once<'a>(kept: &mut Option<&'a str>, value: &'a str) -> bool
     ensures none { result ≡ is_none kept.old }
     ensures one { IsTrue result → option_map (λ word. word.now) kept.new ≡ Some value.entry.now }
 {
@@ -178,6 +178,13 @@ impl<'a> GivenOptions<'a> {
             Valued::MostLines => keep_once(&mut self.most_lines, value),
             Valued::Side => keep_once(&mut self.side, value),
         }
+    }
+
+    /// Whether a side file was named.
+    pub(crate) fn has_side(&self) -> bool
+        ensures { result ≡ is_some self.now.side }
+    {
+        self.side.is_some()
     }
 
     /// What they say, if their values are right.

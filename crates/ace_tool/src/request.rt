@@ -33,7 +33,7 @@ pub enum Request<'a> {
 
 /// Whether there is one word, and it asks for help.
 #[tactic(auto, using(crate::proofs::Words::only))]
-fn is_help(words: &[String]) -> bool
+pub(crate) fn is_help(words: &[String]) -> bool
     ensures { IsTrue result ↔ (map string_bytes words.now ≡ codes "--help" ∷ []) }
 {
     match words.split_first() {

@@ -11,6 +11,7 @@ pub(crate) fn help() -> &'static str
 Checks traces of AMBA ACE. The verdict is always that of `ace check`.
 
   check [FILE]..   the verdict on each trace
+  batch FILE..     the same of many traces, in threads, with a summary and files for a CI
   explain [FILE]   why a trace is refused: the event, the rule, and the clause of it that is broken
   rule [NAME]..    what a rule asks: K12 with its clauses, or K12d; without a name the rules
 

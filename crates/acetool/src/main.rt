@@ -2,14 +2,18 @@
 //! standard streams.
 #![tactic(auto)]
 
+use ace_batch::Entry;
 use ace_call::read_words;
-use ace_io::{StdSink, StdSource};
+use ace_io::{Failed, NoMemory, StdSink, StdSource};
 use ace_retry::Patient;
-use ace_tool::{Folder, OpenErr, acetool, tell_no_memory};
-use std::fs;
+use ace_tool::{
+    CheckOptions, Checks, Folder, OpenErr, Shelf, acetool, batch, result_in, tell_no_memory,
+};
+use std::alloc::Global;
 use std::fs::File;
-use std::io::ErrorKind;
+use std::io::{ErrorKind, Write};
 use std::process::ExitCode;
+use std::{fs, io};
 
 /// The files of the machine.
 #[derive(Drop)]
@@ -37,20 +41,72 @@ impl<'a> Folder for Disk<'a> {
     }
 }
 
+impl<'a> Checks for Disk<'a> {
+    ghost use Rattle.ace_tool.specs.Held.{Untold};
+
+    ghost knows = { λ _ _. Untold };
+
+    fn result_of(
+        &self,
+        alloc: Global,
+        path: &str,
+        options: &CheckOptions<'_>,
+    ) -> Result<Entry, NoMemory> {
+        result_in(alloc, self, path, options)
+    }
+}
+
+/// Writes files of the machine.
+#[derive(Drop)]
+struct Writer<'a> {
+    rt: &'a HostRuntime,
+    faults: u64,
+}
+
+impl<'a> Shelf for Writer<'a> {
+    ghost use Rattle.std.specs.Prelude.{None};
+
+    ghost written = { λ _. None };
+
+    ghost faults = { λ w. w.faults };
+
+    fn put(&mut self, name: &str, text: &[u8]) -> Result<(), Failed> {
+        if write_file(self.rt, name, text).is_ok() {
+            return Ok(());
+        }
+        self.faults = self.faults.saturating_add(1);
+        Err(Failed)
+    }
+}
+
+/// Writes the file of this name whole.
+fn write_file(rt: &HostRuntime, name: &str, text: &[u8]) -> io::Result<()> {
+    let mut file = Patient::new(fs::create(rt, name)?);
+    file.write_all(text)?;
+    file.flush()
+}
+
 fn main(rt: HostRuntime) -> ExitCode {
     let mut input = StdSource::new(Patient::new(rt.stdin()));
     let mut out = StdSink::new(Patient::new(rt.stdout()));
     let mut notes = StdSink::new(Patient::new(rt.stderr()));
-    let status = match read_words(&rt) {
-        Some(words) => acetool(
+    let Some(words) = read_words(&rt) else {
+        return ExitCode::from(tell_no_memory(&mut notes));
+    };
+    let files = Disk { rt: &rt };
+    let status = match words.as_slice() {
+        [word, rest @ ..] if word.as_str() == "batch" => batch(
+            &rt,
             rt.alloc(),
-            words.as_slice(),
-            &Disk { rt: &rt },
+            rest,
+            &files,
+            &files,
+            &mut Writer { rt: &rt, faults: 0 },
             &mut input,
             &mut out,
             &mut notes,
         ),
-        None => tell_no_memory(&mut notes),
+        words => acetool(rt.alloc(), words, &files, &mut input, &mut out, &mut notes),
     };
     ExitCode::from(status)
 }

@@ -1,0 +1,136 @@
+-- What is told of one of many traces.
+use Rattle.std.specs.Prelude.{◌≡◌, ◌+◌, ◌++◌, ℕ, false, List, [], Option, None, Some, codes, decimal, string_bytes}
+use Rattle.ace_batch.specs.declared.entry.Entry.{Entry}
+use Rattle.ace_batch.specs.declared.outcome.Outcome.{Outcome}
+use Rattle.ace_batch.specs.declared.outcome.Outcome.TheVariants as outcome
+use Rattle.ace_explanation.specs.Refusals.{wrong_sentence}
+use Rattle.ace_explanation.specs.Texts.{explanation_text}
+use Rattle.ace_explanation.specs.Told.{IsToldAs}
+use Rattle.ace_explanation.specs.declared.explanation.Explanation.{Explanation}
+use Rattle.ace_explanation.specs.declared.explanation.Explanation.TheVariants.{Refused, Other}
+use Rattle.ace_grammar.specs.Reasons.{number_of_reason}
+use Rattle.ace_grammar.specs.declared.reason.Reason.{Reason}
+use Rattle.ace_grammar.specs.declared.reason.Reason.TheVariants.{F1, F2, F3, F4, F5, F6, F7}
+use Rattle.ace_pages.specs.Pages.{page_name}
+use Rattle.ace_side.specs.Reasons.{number_of_reason as number_of_side_reason}
+use Rattle.ace_tool.specs.Asked.{Options}
+use Rattle.ace_tool.specs.Examined.{IsExamined}
+use Rattle.ace_tool.specs.Held.{Held}
+use Rattle.ace_tool.specs.Reports.{report_text}
+use Rattle.ace_tool.specs.declared.finding.Finding.{Finding}
+use Rattle.ace_tool.specs.declared.finding.Finding.TheVariants as finding
+use Rattle.ace_tool.specs.declared.report.Report.{Report}
+use Rattle.ace_tool.specs.declared.report.Report.TheVariants.{Told, Shut, Compressed, Unfinished, BadSide}
+use Rattle.ace_tool.specs.declared.side.SideFault.{SideFault}
+use Rattle.ace_tool.specs.declared.side.SideFault.TheVariants as fault
+use Rattle.ace_verdict.specs.declared.verdict.Verdict.{Verdict}
+use Rattle.ace_verdict.specs.declared.verdict.Verdict.TheVariants as verdict
+
+-- how a check came out
+abbrev pub outcome_of_verdict : Verdict → Outcome
+outcome_of_verdict (verdict.Accepted events) = outcome.Accepted
+outcome_of_verdict (verdict.Refused index rule) = outcome.Refused
+outcome_of_verdict (verdict.Malformed line reason) = outcome.Malformed
+outcome_of_verdict verdict.ReadFault = outcome.Unreadable
+outcome_of_verdict verdict.LimitEvents = outcome.Limited
+outcome_of_verdict verdict.LimitLines = outcome.Limited
+outcome_of_verdict verdict.NoMemory = outcome.NoMemory
+
+abbrev pub outcome_of_fault : SideFault → Outcome
+outcome_of_fault (fault.Malformed line reason) = outcome.Malformed
+outcome_of_fault fault.ReadFault = outcome.Unreadable
+outcome_of_fault fault.NoMemory = outcome.NoMemory
+outcome_of_fault (fault.Shut error) = outcome.Unreadable
+
+abbrev pub outcome_of : Report → Outcome
+outcome_of (Told v) = outcome_of_verdict v
+outcome_of (Shut error) = outcome.Unreadable
+outcome_of (Compressed packing) = outcome.Unreadable
+outcome_of (Unfinished events gap) = outcome.Unfinished
+outcome_of (BadSide f) = outcome_of_fault f
+
+-- how many events were judged
+abbrev pub events_of : Report → ℕ
+events_of (Told (verdict.Accepted events)) = events
+events_of (Told (verdict.Refused index rule)) = index
+events_of (Unfinished events gap) = events
+events_of report = 0
+
+-- the line that is refused or malformed; the lines of the header are 1 and 2
+abbrev pub line_of_result : Finding → Option ℕ
+line_of_result (finding.Explained (Refused r)) = Some (r.index + 2)
+line_of_result (finding.Explained (Other (verdict.Malformed line reason))) = Some line
+line_of_result found = None
+
+-- what traces that failed alike have in common
+abbrev pub signature_of_report : Report → List ℕ
+signature_of_report (Told (verdict.Malformed line reason)) =
+    codes "F" ++ decimal (number_of_reason reason)
+signature_of_report (Told (verdict.Accepted events)) = []
+signature_of_report (Told v) = report_text [] (Told v)
+signature_of_report (Shut error) = codes "cannot be opened"
+signature_of_report (Compressed packing) = codes "compressed"
+signature_of_report (Unfinished events gap) = codes "unfinished"
+signature_of_report (BadSide (fault.Malformed line reason)) =
+    codes "S" ++ decimal (number_of_side_reason reason)
+signature_of_report (BadSide f) = codes "side file"
+
+abbrev pub signature_of : Finding → Report → List ℕ
+signature_of (finding.Explained (Refused r)) report = page_name r.rule (Some r.letter)
+signature_of found report = signature_of_report report
+
+-- why a line is malformed, as `explain` says it
+abbrev pub reason_words : Reason → List ℕ
+reason_words F1 = codes "the line is missing, or has no line feed within 256 bytes: was the recording cut off here?"
+reason_words F2 = codes "the line doesn't begin with a record of this version"
+reason_words F3 = codes "the number of fields is wrong"
+reason_words F4 = codes "a field has another number of digits"
+reason_words F5 = codes "a field has a character that isn't 0 to 9 or a to f, or another word than it may be"
+reason_words F6 = codes "a number is out of its range"
+reason_words F7 = codes "the header line is another one than it may be"
+
+-- what is told of a side file
+unfoldable pub side_line_words : List ℕ
+side_line_words = codes "malformed side line "
+
+unfoldable pub side_line : ℕ → List ℕ
+side_line line = side_line_words ++ decimal line
+
+unfoldable pub side_words : List ℕ
+side_words = codes "the side file"
+
+-- what is wrong
+abbrev pub message_of_report : List ℕ → Report → List ℕ
+message_of_report name (Told (verdict.Malformed line reason)) = reason_words reason
+message_of_report name (BadSide (fault.Malformed line reason)) = side_line line
+message_of_report name (BadSide f) = side_words ++ report_text name (BadSide f)
+message_of_report name report = report_text name report
+
+abbrev pub message_of : List ℕ → Finding → Report → List ℕ
+message_of name (finding.Explained (Refused r)) report = wrong_sentence r.rule r.letter
+message_of name found report = message_of_report name report
+
+-- All that is told of it: of a trace that is refused or malformed what `explain` tells, if there is memory, and of another its message.
+abbrev pub IsText : List ℕ → Finding → Report → List ℕ → Type 0
+IsText name (finding.Explained (Refused r)) report text = (told : Explanation)
+    × IsToldAs (Refused r) told × (text ≡ explanation_text name false told)
+IsText name (finding.Explained (Other (verdict.Malformed line reason))) report text =
+    text ≡ explanation_text name false (Other (verdict.Malformed line reason))
+IsText name found report text = text ≡ message_of name found report
+
+-- The entry of a trace, by its name and what is told of it.
+pub record IsEntryOf (name : List ℕ) (found : Finding) (report : Report) (e : Entry) : Type 0 where
+  pub path : string_bytes e.path ≡ name
+  pub outcome : e.outcome ≡ outcome_of report
+  pub events : e.events ≡ events_of report
+  pub line : e.line ≡ line_of_result found
+  pub signature : e.signature.items ≡ signature_of found report
+  pub message : e.message.items ≡ message_of name found report
+  pub text : IsText name found report e.text.items
+
+-- The entry is that of the trace of this name.
+pub record IsResult (options : Options) (holds : List ℕ → Held) (name : List ℕ) (e : Entry) : Type 0 where
+  pub found : Finding
+  pub report : Report
+  pub right : IsExamined options holds name found report
+  pub entry : IsEntryOf name found report e
