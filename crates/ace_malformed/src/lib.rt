@@ -24,3 +24,4 @@ pub use place::column_of;
 pub use pushing::{push, push_number};
 pub use reading::{NoHeader, next_event, read_header};
 pub use text::bad_line_text;
+pub use wrong::push_wrong;

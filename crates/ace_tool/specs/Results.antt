@@ -7,10 +7,9 @@ use Rattle.ace_explanation.specs.Refusals.{wrong_sentence}
 use Rattle.ace_explanation.specs.Texts.{explanation_text}
 use Rattle.ace_explanation.specs.Told.{IsToldAs}
 use Rattle.ace_explanation.specs.declared.explanation.Explanation.{Explanation}
-use Rattle.ace_explanation.specs.declared.explanation.Explanation.TheVariants.{Refused, Other}
+use Rattle.ace_explanation.specs.declared.explanation.Explanation.TheVariants.{Refused, Malformed}
 use Rattle.ace_grammar.specs.Reasons.{number_of_reason}
-use Rattle.ace_grammar.specs.declared.reason.Reason.{Reason}
-use Rattle.ace_grammar.specs.declared.reason.Reason.TheVariants.{F1, F2, F3, F4, F5, F6, F7}
+use Rattle.ace_malformed.specs.Sentences.{wrong_sentence as malformed_sentence}
 use Rattle.ace_pages.specs.Pages.{page_name}
 use Rattle.ace_side.specs.Reasons.{number_of_reason as number_of_side_reason}
 use Rattle.ace_tool.specs.Asked.{Options}
@@ -59,7 +58,7 @@ events_of report = 0
 -- the line that is refused or malformed; the lines of the header are 1 and 2
 abbrev pub line_of_result : Finding → Option ℕ
 line_of_result (finding.Explained (Refused r)) = Some (r.index + 2)
-line_of_result (finding.Explained (Other (verdict.Malformed line reason))) = Some line
+line_of_result (finding.Explained (Malformed bad)) = Some bad.number
 line_of_result found = None
 
 -- what traces that failed alike have in common
@@ -79,16 +78,6 @@ abbrev pub signature_of : Finding → Report → List ℕ
 signature_of (finding.Explained (Refused r)) report = page_name r.rule (Some r.letter)
 signature_of found report = signature_of_report report
 
--- why a line is malformed, as `explain` says it
-abbrev pub reason_words : Reason → List ℕ
-reason_words F1 = codes "the line is missing, or has no line feed within 256 bytes: was the recording cut off here?"
-reason_words F2 = codes "the line doesn't begin with a record of this version"
-reason_words F3 = codes "the number of fields is wrong"
-reason_words F4 = codes "a field has another number of digits"
-reason_words F5 = codes "a field has a character that isn't 0 to 9 or a to f, or another word than it may be"
-reason_words F6 = codes "a number is out of its range"
-reason_words F7 = codes "the header line is another one than it may be"
-
 -- what is told of a side file
 unfoldable pub side_line_words : List ℕ
 side_line_words = codes "malformed side line "
@@ -101,21 +90,21 @@ side_words = codes "the side file"
 
 -- what is wrong
 abbrev pub message_of_report : List ℕ → Report → List ℕ
-message_of_report name (Told (verdict.Malformed line reason)) = reason_words reason
 message_of_report name (BadSide (fault.Malformed line reason)) = side_line line
 message_of_report name (BadSide f) = side_words ++ report_text name (BadSide f)
 message_of_report name report = report_text name report
 
 abbrev pub message_of : List ℕ → Finding → Report → List ℕ
 message_of name (finding.Explained (Refused r)) report = wrong_sentence r.rule r.letter
+message_of name (finding.Explained (Malformed bad)) report = malformed_sentence bad
 message_of name found report = message_of_report name report
 
 -- All that is told of it: of a trace that is refused or malformed what `explain` tells, if there is memory, and of another its message.
 abbrev pub IsText : List ℕ → Finding → Report → List ℕ → Type 0
 IsText name (finding.Explained (Refused r)) report text = (told : Explanation)
     × IsToldAs (Refused r) told × (text ≡ explanation_text name false told)
-IsText name (finding.Explained (Other (verdict.Malformed line reason))) report text =
-    text ≡ explanation_text name false (Other (verdict.Malformed line reason))
+IsText name (finding.Explained (Malformed bad)) report text = (told : Explanation)
+    × IsToldAs (Malformed bad) told × (text ≡ explanation_text name false told)
 IsText name found report text = text ≡ message_of name found report
 
 -- The entry of a trace, by its name and what is told of it.

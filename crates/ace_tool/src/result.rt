@@ -17,7 +17,6 @@ use crate::result_parts::{events_of, line_of_result, outcome_of, push_message, p
 use ace_batch::Entry;
 use ace_explanation::{Explanation, tell};
 use ace_io::{MemSink, NoMemory};
-use ace_verdict::Verdict;
 use std::alloc::Global;
 
 /// Room for what is told of a trace beside its name.
@@ -82,10 +81,9 @@ fn text_of(
 {
     match finding {
         Finding::Explained { explanation } => match explanation {
-            Explanation::Refused { .. }
-            | Explanation::Other {
-                verdict: Verdict::Malformed { .. },
-            } => explained_text(alloc, name, *explanation),
+            Explanation::Refused { .. } | Explanation::Malformed { .. } => {
+                explained_text(alloc, name, *explanation)
+            }
             _ => message_of(alloc, name, finding, report),
         },
         _ => message_of(alloc, name, finding, report),

@@ -3,7 +3,7 @@ ghost use Rattle.std.specs.Prelude.{◌≡◌, ◌++◌, decimal, OnOk};
 ghost use Rattle.ace_explanation.specs.Refusals.{wrong_sentence};
 ghost use Rattle.ace_tool.specs.Explaining.{MayBeTold};
 ghost use Rattle.ace_tool.specs.Reports.{report_text};
-ghost use Rattle.ace_tool.specs.Results.{events_of, line_of_result, message_of, message_of_report, outcome_of, outcome_of_fault, outcome_of_verdict, reason_words, side_line, side_line_words, side_words, signature_of, signature_of_report};
+ghost use Rattle.ace_tool.specs.Results.{events_of, line_of_result, message_of, message_of_report, outcome_of, outcome_of_fault, outcome_of_verdict, side_line, side_line_words, side_words, signature_of, signature_of_report};
 
 use crate::finding::Finding;
 use crate::line::said_of;
@@ -12,8 +12,8 @@ use crate::side::SideFault;
 use ace_batch::Outcome;
 use ace_clauses::{ClauseName, Letter};
 use ace_explanation::Explanation;
-use ace_grammar::Reason;
 use ace_io::NoMemory;
+use ace_malformed::push_wrong;
 use ace_pages::page_name;
 use ace_verdict::Verdict;
 use ace_words::wrong_with;
@@ -82,10 +82,8 @@ pub(crate) fn line_of_result(finding: &Finding) -> Option<u64>
             explanation: Explanation::Refused { refusal },
         } => Some(refusal.index + 2),
         Finding::Explained {
-            explanation: Explanation::Other {
-                verdict: Verdict::Malformed { line, .. },
-            },
-        } => Some(*line),
+            explanation: Explanation::Malformed { bad },
+        } => Some(bad.number),
         _ => None,
     }
 }
@@ -162,25 +160,6 @@ pub(crate) fn push_signature(
     }
 }
 
-/// Why a line is malformed.
-fn reason_words(reason: Reason) -> &'static str
-    ensures { result.now ≡ reason_words reason }
-{
-    match reason {
-        Reason::F1 => {
-            "the line is missing, or has no line feed within 256 bytes: was the recording cut off here?"
-        }
-        Reason::F2 => "the line doesn't begin with a record of this version",
-        Reason::F3 => "the number of fields is wrong",
-        Reason::F4 => "a field has another number of digits",
-        Reason::F5 => {
-            "a field has a character that isn't 0 to 9 or a to f, or another word than it may be"
-        }
-        Reason::F6 => "a number is out of its range",
-        Reason::F7 => "the header line is another one than it may be",
-    }
-}
-
 /// What stands before the number of a line of a side file.
 #[tactic(auto, unfolding(crate::specs::Results::side_line_words))]
 fn side_line_words() -> &'static str
@@ -222,9 +201,6 @@ fn push_message_of_report(text: &mut Vec<u8>, name: &str, report: &Report) -> Re
         ++ message_of_report name.now report.now) }
 {
     match report {
-        Report::Told {
-            verdict: Verdict::Malformed { reason, .. },
-        } => push(text, reason_words(*reason)),
         Report::BadSide {
             fault: SideFault::Malformed { line, .. },
         } => push_side_line(text, *line),
@@ -258,6 +234,9 @@ pub(crate) fn push_message(
             Ok(()) => Ok(()),
             Err(_) => Err(NoMemory),
         },
+        Finding::Explained {
+            explanation: Explanation::Malformed { bad },
+        } => push_wrong(text, bad),
         _ => push_message_of_report(text, name, report),
     }
 }
