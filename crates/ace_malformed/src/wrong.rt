@@ -303,8 +303,12 @@ fn push_by(text: &mut Vec<u8>, bad: &BadLine) -> Result<(), NoMemory>
 }
 
 /// Adds what is wrong in the line.
+///
+/// # Errors
+///
+/// `NoMemory` where there is none for it.
 #[tactic(auto, unfolding(crate::specs::Sentences::wrong_sentence))]
-pub(crate) fn push_wrong(text: &mut Vec<u8>, bad: &BadLine) -> Result<(), NoMemory>
+pub fn push_wrong(text: &mut Vec<u8>, bad: &BadLine) -> Result<(), NoMemory>
     ensures { OnOk result (text.new.items ≡ text.old.items ++ wrong_sentence bad.now) }
 {
     if ends_in_return(bad.line.bytes()) {
