@@ -1,8 +1,7 @@
 // Results of some traces.
-ghost use Rattle.std.specs.Prelude.{◌<◌, ⊤};
+ghost use Rattle.std.specs.Prelude.{◌<◌};
 
 use ace_batch::{Entry, Outcome};
-use ace_batch_run::Examiner;
 use ace_io::NoMemory;
 use std::alloc::Global;
 
@@ -76,37 +75,31 @@ fn bytes_of(alloc: Global, text: &str) -> Result<Vec<u8>, NoMemory> {
     }
 }
 
-/// Tells of a few paths.
-pub struct Fixed;
-
-impl Examiner for Fixed {
-    ghost tells = { λ _ _ _. ⊤ };
-
-    fn examine(&self, alloc: Global, path: &str) -> Result<Entry, NoMemory> {
-        let told = told_of(path);
-        let Ok(path) = String::from_str(alloc, path) else {
-            return Err(NoMemory);
-        };
-        let signature = bytes_of(alloc, told.signature)?;
-        let message = bytes_of(alloc, told.message)?;
-        let text = bytes_of(alloc, told.text)?;
-        Ok(Entry {
-            path,
-            outcome: told.outcome,
-            events: told.events,
-            line: told.line,
-            signature,
-            message,
-            text,
-        })
-    }
+/// The entry of this path.
+fn entry_of(alloc: Global, path: &str) -> Result<Entry, NoMemory> {
+    let told = told_of(path);
+    let Ok(path) = String::from_str(alloc, path) else {
+        return Err(NoMemory);
+    };
+    let signature = bytes_of(alloc, told.signature)?;
+    let message = bytes_of(alloc, told.message)?;
+    let text = bytes_of(alloc, told.text)?;
+    Ok(Entry {
+        path,
+        outcome: told.outcome,
+        events: told.events,
+        line: told.line,
+        signature,
+        message,
+        text,
+    })
 }
 
 /// The results of the traces of these paths.
 pub fn results(alloc: Global, paths: &[&str]) -> Result<Vec<Entry>, NoMemory> {
     let mut entries = Vec::new(alloc);
     for path in paths {
-        let entry = Fixed.examine(alloc, path)?;
+        let entry = entry_of(alloc, path)?;
         if entries.push(entry).is_err() {
             return Err(NoMemory);
         }

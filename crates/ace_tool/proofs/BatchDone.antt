@@ -11,7 +11,7 @@ use Rattle.ace_batch.specs.Junit.{junit_text}
 use Rattle.ace_batch.specs.Shards.{if_in, is_in, part_from, part_of}
 use Rattle.ace_batch.specs.Summaries.{told_text}
 use Rattle.ace_batch.specs.declared.entry.Entry.{Entry}
-use Rattle.ace_batch_run.specs.Lists.{paths_of, texts_of}
+use Rattle.ace_paths.specs.Lists.{paths_of, texts_of}
 use Rattle.ace_tool.specs.Asked.{Options, is_input}
 use Rattle.ace_tool.specs.Batch.{AreResults, Batches, IsDone, Log, TellsTexts, WritesBoth, WritesIf}
 use Rattle.ace_tool.specs.BatchAsked.{BatchAsked}

@@ -15,3 +15,5 @@ pub mod Reading
 pub mod SideLines
 pub mod Sound
 pub mod Words
+pub mod Running
+

@@ -1,7 +1,7 @@
 -- The traces that a batch is asked for.
 use Rattle.std.specs.Prelude.{◌≡◌, ◌++◌, ℕ, Bool, true, false, List, [], Option, None, Some, IfSome}
 use Rattle.ace_batch.specs.Shards.{part_of}
-use Rattle.ace_batch_run.specs.Lists.{paths_of}
+use Rattle.ace_paths.specs.Lists.{paths_of}
 use Rattle.ace_tool.specs.Asked.{is_input}
 use Rattle.ace_tool.specs.BatchAsked.{BatchAsked}
 use Rattle.ace_tool.specs.Held.{Held, told_of}

@@ -1,6 +1,6 @@
 use Rattle.std.proofs.Common.{◌++◌, rules, subst}
 use Rattle.std.specs.List.{AllZip}
-use Rattle.ace_batch_run.specs.Lists.{paths_of, texts_of}
+use Rattle.ace_paths.specs.Lists.{paths_of, texts_of}
 use Rattle.ace_tool.specs.Results.{IsResult}
 use Rattle.ace_tool.specs.Told.{options_of}
 use Rattle.ace_tool.proofs.BatchDone.{results_by_texts}

@@ -1,7 +1,7 @@
 use Rattle.std.proofs.Common.{IfOk, ap, subst, ◌∙◌}
 use Rattle.std.specs.List.{AllZip}
 use Rattle.rayon.proofs.ListFacts.{IfOk-then}
-use Rattle.ace_batch_run.proofs.Running.{told_all}
+use Rattle.ace_tool.proofs.Running.{told_all}
 use Rattle.ace_tool.specs.Results.{IsResult}
 use Rattle.ace_tool.specs.Told.{options_of}
 use Rattle.ace_tool.proofs.many.results_in_pieces.Goals as goal

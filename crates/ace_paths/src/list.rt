@@ -1,7 +1,7 @@
 // A list of paths.
 ghost use Rattle.std.specs.Prelude.{◌≡◌, ◌==◌, IfOk};
 ghost use Rattle.std.specs.List.{slice_split};
-ghost use Rattle.ace_batch_run.specs.Lists.{paths_of, texts_of};
+ghost use Rattle.ace_paths.specs.Lists.{paths_of, texts_of};
 
 use ace_io::NoMemory;
 use std::alloc::{AllocError, Global};

@@ -1,6 +1,6 @@
 use Rattle.std.proofs.Common.{◌≡◌, filter, take}
-use Rattle.ace_batch_run.specs.Lists.{is_some_text, texts_of}
-use Rattle.ace_batch_run.proofs.list.paths_of.Given as goal
+use Rattle.ace_paths.specs.Lists.{is_some_text, texts_of}
+use Rattle.ace_paths.proofs.list.paths_of.Given as goal
 
 -- those of the lines so far
 abbrev pub invariant-loop-line : goal.invariant-loop-line

@@ -1,0 +1,6 @@
+//! Lists of paths.
+#![tactic(auto)]
+
+mod list;
+
+pub use list::paths_of;
