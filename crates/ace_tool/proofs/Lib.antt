@@ -16,4 +16,3 @@ pub mod SideLines
 pub mod Sound
 pub mod Words
 pub mod Running
-
