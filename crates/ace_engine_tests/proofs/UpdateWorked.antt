@@ -18,7 +18,7 @@ use Rattle.ace_engine.specs.Engines.{IsLegal, Update, is_given_by, is_of_update}
 use Rattle.ace_engine.proofs.Heard.{none-next}
 use Rattle.ace_engine_tests.specs.Update.{are_others, evict_events, evict_plan, update_events, update_plan}
 
-one-port : IsHeader (record { version = 1; ports = 1; ace = 1 })
+pub one-port : IsHeader (record { version = 1; ports = 1; ace = 1 })
 one-port = record { version = inl refl; some_port = omega arith; most_ports = omega arith; most_ace = omega arith; most_lite = omega arith; no_other = omega arith }
 
 pub update-right : IsRight update_plan

@@ -10,3 +10,5 @@ mod master_state;
 mod order;
 #[cfg(test)]
 mod update;
+#[cfg(test)]
+mod waiting;

@@ -100,7 +100,7 @@ fn rk() -> Event
 }
 
 /// The engine hears the events, which others put.
-fn hear_all(order: &mut Order, events: &[Event])
+pub fn hear_all(order: &mut Order, events: &[Event])
     ensures { (plan : Plan) (past : Trace) → OrderStands order.old plan past → IsLegal plan (onto events.now past) → are_others past events.now ≡ true
         → OrderStands order.new plan (onto events.now past) }
 {

@@ -29,12 +29,12 @@ const HEADER: Header = Header {
     ace: 1,
 };
 
-const STORED: Line = Line {
+pub const STORED: Line = Line {
     words: [5, 6, 7, 8],
 };
 
 /// The plan of one port with these operations.
-fn plan_of(alloc: Global, first: Op, second: Op) -> Result<PlanView, Fail>
+pub fn plan_of(alloc: Global, first: Op, second: Op) -> Result<PlanView, Fail>
     ensures { IfOk result (λ v. v.plan ≡ plan_of first second) }
 {
     let mut view = PlanView::with_room(alloc, HEADER, 1, PolicyWord::Keep, 2)?;
@@ -111,7 +111,7 @@ fn rk(st: LineState) -> Event
     Event::Rk { port: 0, st }
 }
 
-fn op(k: u16) -> Event
+pub fn op(k: u16) -> Event
     ensures { result ≡ Retires 0 k Ok }
 {
     Event::Op {
@@ -121,7 +121,7 @@ fn op(k: u16) -> Event
     }
 }
 
-fn w(last: bool, word: u128) -> Event
+pub fn w(last: bool, word: u128) -> Event
     ensures { result ≡ W 0 65535 last word }
 {
     Event::W {

@@ -1,7 +1,7 @@
 -- Ports at rest: no step may be taken for what has to wait, and how long it has to.
-use Rattle.std.proofs.Common.{◌≡◌, ℕ, zero, suc, true, false, not, List, [], ◌∷◌, map, slice_get, Option, Some, None, is_some, option_map, refl, sym, ap, subst, ◌∙◌, inl, inr}
+use Rattle.std.proofs.Common.{◌≡◌, ◌⊎◌, ℕ, zero, suc, ◌<◌, ◌≤◌, true, false, not, List, [], ◌∷◌, length, map, slice_get, Option, Some, None, is_some, option_map, refl, sym, ap, subst, ◌∙◌, inl, inr, arith}
 use Rattle.std.proofs.Math.Bool.{and-false}
-use Rattle.std.proofs.lemmas.Bool.{and_parts, cases_Bool, false_from_ne_true}
+use Rattle.std.proofs.lemmas.Bool.{and_parts, cases_Bool, false_from_ne_true, ltb-true}
 use Rattle.ace_event.specs.declared.event.Channel.{Channel}
 use Rattle.ace_event.specs.declared.event.Channel.TheVariants.{Write}
 use Rattle.ace_event.specs.declared.event.Event.{Event}
@@ -11,23 +11,22 @@ use Rattle.ace_model.specs.Accepted.{IsAccepted}
 use Rattle.ace_model.specs.Exclusives.{has_failed}
 use Rattle.ace_model.specs.Grants.{granted, has_grant}
 use Rattle.ace_model.specs.Trace.{Trace}
-use Rattle.ace_model.specs.Transactions.{ended, is_exclusive_store, is_outstanding, is_read, is_transaction, outstanding, takes_grant}
+use Rattle.ace_model.specs.Transactions.{ended, is_exclusive_store, is_outstanding, is_read, is_transaction, issued, outstanding, takes_grant}
 use Rattle.ace_model.proofs.General.Options.{Some-injective}
 use Rattle.ace_model.proofs.Grants.Granted.{granted_given}
 use Rattle.ace_model.proofs.Grants.Stays.{failed_stays, granted_after, granted_before, gives_none}
 use Rattle.ace_model.proofs.Outstanding.Steps.{outstanding_after}
 use Rattle.ace_model.proofs.Trace.Growth.{issued-cases}
+use Rattle.ace_model.proofs.Trace.IssuedTransactions.{issuer-low}
 use Rattle.ace_runs.specs.Bursts.{is_kept}
 use Rattle.ace_lineck.specs.declared.grant.Grant.{Grant}
 use Rattle.ace_lineck.specs.Grants.{GrantStands}
 use Rattle.ace_lineck.specs.Records.{name_of}
-use Rattle.ace_home.specs.declared.marks.Mark.{Mark}
-use Rattle.ace_home.specs.declared.marks.Mark.TheVariants.{HeldUp}
-use Rattle.ace_home.specs.declared.marks.MarkedLines.{MarkedLines}
 use Rattle.ace_home.specs.Among.{PortSets}
-use Rattle.ace_home.specs.declared.resting.RestingPorts.{RestingPorts}
-use Rattle.ace_home.specs.Home.{AreResting, IsOf, grant_of}
-use Rattle.ace_home.specs.Marks.{IsAsMarked, IsStill, mark_of}
+use Rattle.ace_home.specs.declared.line_users.LineUsers.{LineUsers}
+use Rattle.ace_home.specs.declared.port_set.PortSet.{PortSet}
+use Rattle.ace_home.specs.HeldUp.{IsHeldUp, IsStill}
+use Rattle.ace_home.specs.Home.{AreResting, AreUsers, IsOf, grant_of}
 use Rattle.ace_home.specs.Resting.{GoesLater, HasToWait, IsKeptOff, IsUnbegun, may_end, moves_own}
 use Rattle.ace_home.specs.Services.{TakesNoneBelow, all_steps}
 use Rattle.ace_home.proofs.FirstEvents.{grant-later, grant-not-kept}
@@ -62,15 +61,14 @@ module _ (among : PortSets) (h : Header) (past : Trace) (a : IsAccepted h past) 
         | inr none ↦ grant-not-kept h past a p x o none
       ])
 
-  -- where each line is as it is marked
-  pub waiting-takes-none : (m : MarkedLines) → ((l : ℕ) (k : Mark) → mark_of m l ≡ Some k → IsAsMarked h past l k) → HasToWait h past m x → TakesNoneBelow among all_steps h past x
-  waiting-takes-none m marks w = elim w [
+  pub waiting-takes-none : HasToWait h past x → TakesNoneBelow among all_steps h past x
+  waiting-takes-none w = elim w [
     | inl f ↦ idle f
     | inr later ↦ elim later [
       | inl off ↦ kept-off off
       | inr last ↦ elim last [
         | inl behind ↦ goes-later behind
-        | inr u ↦ held-unbegun among h past a p x o (marks x.addr HeldUp u.held) u.had u.first u.unfailed
+        | inr u ↦ held-unbegun among h past a p x o u.held u.had u.first u.unfailed
       ]
     ]
   ]
@@ -87,14 +85,18 @@ write-unfailed past x chan =
 
 -- ---- what is told of a granted line --------------------------------------------------------------------
 
-pub some-mapped : {A B : Type 0} → (f : A → B) (o : Option A) → is_some (option_map f o) ≡ true → is_some o ≡ true
-some-mapped f None t = cc
-some-mapped f (Some x) t = refl
+pub some-mapped : {A B : Type 0} → (f : A → B) (o : Option A) → is_some (option_map f o) ≡ is_some o
+some-mapped f None = refl
+some-mapped f (Some x) = refl
 
 pub mapped-at : {A B : Type 0} → (f : A → B) (xs : List A) (k : ℕ) (x : A) → slice_get xs k ≡ Some x → slice_get (map f xs) k ≡ Some (f x)
 mapped-at f [] k x at = cc
 mapped-at f (y ∷ xs) zero x at = ap (λ o. option_map f o) at
 mapped-at f (y ∷ xs) (suc k) x at = mapped-at f xs k x at
+
+pub none-taken : {A : Type 0} → (o : Option A) → is_some o ≡ false → o ≡ None
+none-taken None f = refl
+none-taken (Some x) f = cc
 
 -- its port, by its name
 pub no-port : (o : Option Transaction) → None ≡ option_map name_of o → None ≡ option_map (λ (y : Transaction). y.port) o
@@ -107,16 +109,30 @@ port-named (Some y) n is = ap (λ (v : ℕ × Channel × ℕ). Some v.0) (Some-i
 
 -- ---- how long it has to wait -------------------------------------------------------------------------
 
--- what is outstanding after an event with which none of the port begins was so before it
-pub was-of : (h : Header) (past : Trace) (e : Event) (p : ℕ) (x : Transaction) → IsAccepted h (e ∷ past) → moves_own e p ≡ false → IsOf h (e ∷ past) p x → IsOf h past p x
-was-of h past e p x a own o =
+-- what is outstanding after an event begins with it, or was so before it
+pub begun-or-was : (h : Header) (past : Trace) (e : Event) (p : ℕ) (x : Transaction) → IsAccepted h (e ∷ past) → IsOf h (e ∷ past) p x
+    → (issued (length past) e ≡ Some x) ⊎ IsOf h past p x
+begun-or-was h past e p x a o =
     let w = of-at h (e ∷ past) p x o in
     elim (issued-cases e past x w.issued) [
-      | inl new ↦ let t = begins-own _ e p x new w.port in let bad : true ≡ false = sym t ∙ own in cc
+      | inl new ↦ inl new
       | inr old ↦
           let both = and_parts (is_outstanding h past x) (not (is_transaction (ended h past e) x)) (sym (outstanding_after h past e x a old) ∙ w.is_out) in
-          subst (λ q. IsOf h past q x) w.port (of-port h past x old both.0)
+          inr (subst (λ q. IsOf h past q x) w.port (of-port h past x old both.0))
     ]
+
+-- and so before it, where none of the port begins with the event
+pub was-of : (h : Header) (past : Trace) (e : Event) (p : ℕ) (x : Transaction) → IsAccepted h (e ∷ past) → moves_own e p ≡ false → IsOf h (e ∷ past) p x → IsOf h past p x
+was-of h past e p x a own o = elim (begun-or-was h past e p x a o) [
+  | inl new ↦
+      let t = begins-own _ e p x new (of-at h (e ∷ past) p x o).port in
+      let bad : true ≡ false = sym t ∙ own in cc
+  | inr was ↦ was
+]
+
+-- a port of an outstanding transaction is one of the first 32
+pub port-low : (h : Header) (past : Trace) (p : ℕ) (x : Transaction) → IsAccepted h past → h.ports ≤ 32 → IsOf h past p x → x.port < 32
+port-low h past p x a few o = let low = ltb-true x.port h.ports (issuer-low h past x a (of-at h past p x o).issued) in omega (arith, low, few)
 
 same-granted : (h : Header) (past : Trace) (e : Event) (l : ℕ) (g : Option Grant) → GrantStands h past l g → GrantStands h (e ∷ past) l g → granted h (e ∷ past) l ≡ granted h past l
 same-granted h past e l None before after = after ∙ sym before
@@ -158,8 +174,8 @@ module _ (h : Header) (past : Trace) (e : Event) (a : IsAccepted h (e ∷ past))
     own-grant none = same-grant-of h past e a x out own-port ∙ none
 
     -- behind an older one it stays so, or is kept off
-    still-later : (n : MarkedLines) → GoesLater h past x → HasToWait h (e ∷ past) n x
-    still-later n w = elim (later-stays h past e x a w.later) [
+    still-later : GoesLater h past x → HasToWait h (e ∷ past) x
+    still-later w = elim (later-stays h past e x a w.later) [
       | inl later ↦ inr (inr (inl (record { waits = own-grant w.waits; later = later })))
       | inr taken ↦ inr (inl (record { waits = own-grant w.waits; taken = taken }))
     ]
@@ -170,29 +186,32 @@ module _ (h : Header) (past : Trace) (e : Event) (a : IsAccepted h (e ∷ past))
       | inr gives ↦ let none = gives_none h past e a x.addr x was in let bad : true ≡ false = sym gives ∙ none in cc
     ]
 
-    still-unbegun : (m n : MarkedLines) → (mark_of m x.addr ≡ Some HeldUp → granted h (e ∷ past) x.addr ≡ Some x → mark_of n x.addr ≡ Some HeldUp)
-        → IsUnbegun m past x → IsUnbegun n (e ∷ past) x
-    still-unbegun m n held u = record {
+    still-unbegun : (IsHeldUp h past x.addr → granted h (e ∷ past) x.addr ≡ Some x → IsHeldUp h (e ∷ past) x.addr) → IsUnbegun h past x → IsUnbegun h (e ∷ past) x
+    still-unbegun held u = record {
       had = same-grant-of h past e a x out own-port ∙ u.had;
       held = held u.held (stays-granted x.addr x lasts (granted-line h past a.0 p x o u.had));
       first = λ read. same-count-of h past e a x out own-port read ∙ u.first read;
       unfailed = unfailed-stays (granted-line h past a.0 p x o u.had) (stays-granted x.addr x lasts (granted-line h past a.0 p x o u.had)) ∙ u.unfailed;
     }
 
-    -- what has to wait has to after an event that doesn't move it, where its line stays marked as held up
-    pub still-waits : (m n : MarkedLines) → (mark_of m x.addr ≡ Some HeldUp → granted h (e ∷ past) x.addr ≡ Some x → mark_of n x.addr ≡ Some HeldUp)
-        → HasToWait h past m x → HasToWait h (e ∷ past) n x
-    still-waits m n held w = elim w [
+    -- what has to wait has to after an event that doesn't move it, where its line stays held up
+    pub still-waits : (IsHeldUp h past x.addr → granted h (e ∷ past) x.addr ≡ Some x → IsHeldUp h (e ∷ past) x.addr) → HasToWait h past x → HasToWait h (e ∷ past) x
+    still-waits held w = elim w [
       | inl f ↦ inl f
       | inr later ↦ elim later [
         | inl off ↦ inr (inl (still-off off))
         | inr last ↦ elim last [
-          | inl behind ↦ still-later n behind
-          | inr u ↦ inr (inr (inr (still-unbegun m n held u)))
+          | inl behind ↦ still-later behind
+          | inr u ↦ inr (inr (inr (still-unbegun held u)))
         ]
       ]
     ]
 
 -- at the start there is nothing to wait for
-pub none_at_rest : (h : Header) (m : MarkedLines) (s : RestingPorts) → AreResting h [] m s
-none_at_rest h m s p t x o = cc
+pub none_at_rest : (h : Header) (s : PortSet) → AreResting h [] s
+none_at_rest h s p t x o = cc
+
+pub no_users : (h : Header) (s : LineUsers) → AreUsers h [] s
+no_users h s p x o = cc
+
+pub ruleset at_start = (none_at_rest, no_users)

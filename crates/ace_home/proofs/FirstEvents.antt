@@ -42,7 +42,7 @@ use Rattle.ace_portck.specs.Targets.{data_of_write as data_sent}
 use Rattle.ace_lineck.specs.Waiting.{has_unsnooped, is_answering}
 use Rattle.ace_lineck.proofs.WaitingLooks.{answering-transfer, answering-undone, snooped-snoop, some-found}
 use Rattle.ace_home.specs.Home.{IsOf, grant_of}
-use Rattle.ace_home.specs.Marks.{is_stuck, is_stuck_read}
+use Rattle.ace_home.specs.HeldUp.{is_stuck, is_stuck_read}
 use Rattle.ace_home.specs.Services.{first_kept, has_snoop, if_kept}
 use Rattle.ace_home.proofs.Outstanding.{granted-line, out-own, ungranted}
 use Rattle.ace_home.proofs.Waiting.{had-not-kept, kept-takes}

@@ -1,10 +1,6 @@
 -- Lines whose granted transactions are held up: how long they stay so, and that no step may be taken for a transaction of one.
-use Rattle.std.proofs.Common.{◌≡◌, ◌⊎◌, ℕ, ◌<◌, ◌/◌, Bool, true, false, not, ◌&&◌, ◌==◌, ◌∷◌, length, replicate, Option, Some, None, is_some, option_map, option_and_then, if◌then◌else◌, refl, sym, ap, ◌∙◌, inl, inr, arith}
-use Rattle.std.specs.List.{list_any}
-use Rattle.std.proofs.lemmas.Bool.{and_from, and_parts, cases_Bool, cases_eq, eq-eqb, false_from_ne_true, not-true, or_right}
-use Rattle.std.proofs.Math.Nat.{mod-lt}
-use Rattle.std.proofs.lemmas.List.{get_or-replicate}
-use Rattle.std.proofs.lemmas.Option.{unwrap_or-slice_get}
+use Rattle.std.proofs.Common.{◌≡◌, ◌⊎◌, ℕ, Bool, true, false, not, ◌&&◌, ◌∷◌, length, Option, Some, None, option_map, refl, sym, ap, ◌∙◌, inl, inr}
+use Rattle.std.proofs.lemmas.Bool.{cases_Bool, cases_eq, eq-eqb}
 use Rattle.ace_event.specs.declared.event.Channel.{Channel}
 use Rattle.ace_event.specs.declared.event.Channel.TheVariants.{Read, Write}
 use Rattle.ace_event.specs.declared.event.Event.{Event}
@@ -15,12 +11,11 @@ use Rattle.ace_event.specs.declared.header.Header.{Header}
 use Rattle.ace_model.specs.declared.transactions.Transaction.{Transaction}
 use Rattle.ace_model.specs.Accepted.{IsAccepted}
 use Rattle.ace_model.specs.Exclusives.{has_failed}
-use Rattle.ace_model.specs.Grants.{granted, has_grant, has_passed_data, has_sharer, is_begun, ports_below}
+use Rattle.ace_model.specs.Grants.{granted, has_grant, has_passed_data, has_sharer}
 use Rattle.ace_model.specs.Kinds.{is_read_not_shared_dirty, takes_passed_data}
 use Rattle.ace_model.specs.Trace.{Trace, is_some_and}
 use Rattle.ace_model.specs.Snoops.{snoops_a_line}
-use Rattle.ace_model.specs.Transactions.{ended, is_line, is_read, read_kind, transfers, without}
-use Rattle.ace_model.specs.Writes.{has_memory_write}
+use Rattle.ace_model.specs.Transactions.{ended, is_line, is_read, read_kind, transfers}
 use Rattle.ace_model.specs.declared.snoops.Snoop.{Snoop}
 use Rattle.ace_portck.specs.declared.target.Progress.{Progress}
 use Rattle.ace_portck.specs.Targets.{line_in, line_of, line_of_snoop, snoop_in}
@@ -28,36 +23,18 @@ use Rattle.ace_lineck.proofs.GrantFrame.{grant_stays, line-of_granted}
 use Rattle.ace_lineck.proofs.GrantSteps.{calm-granted, is_calm, serves}
 use Rattle.ace_lineck.specs.declared.grant.Grant.{Grant}
 use Rattle.ace_lineck.specs.Grants.{GrantStands}
-use Rattle.ace_lineck.specs.Waiting.{has_unsnooped, is_answering, is_owed_by, is_unsnooped_beside}
 use Rattle.ace_lineck.proofs.LineLooks.{passed-look}
 use Rattle.ace_lineck.proofs.WaitingLooks.{answering-law, unsnooped-law}
-use Rattle.ace_model.proofs.General.Options.{Some-injective, is_some_and-is}
+use Rattle.ace_model.proofs.General.Options.{Some-injective}
 use Rattle.ace_model.proofs.Trace.Looks.{is_on-addr}
-use Rattle.ace_runs.specs.Bursts.{is_kept}
 use Rattle.ace_runs.specs.LineSteps.{takes_dirt}
-use Rattle.ace_home.specs.declared.marks.Mark.{Mark}
-use Rattle.ace_home.specs.declared.marks.Mark.TheVariants.{HeldUp, Snooped}
-use Rattle.ace_home.specs.declared.marks.Marked.{Marked}
 use Rattle.ace_home.specs.Among.{PortSets}
-use Rattle.ace_home.specs.Marks.{IsAsMarked, IsHeldUp, IsStill, is_stuck, is_stuck_read, mark_of, slot_of}
-use Rattle.ace_home.specs.Home.{IsOf, grant_of}
+use Rattle.ace_home.specs.HeldUp.{IsHeldUp, IsStill, is_stuck, is_stuck_read}
+use Rattle.ace_home.specs.Home.{IsOf}
 use Rattle.ace_home.specs.Services.{TakesNoneBelow, all_steps}
 use Rattle.ace_home.proofs.Among.{fewer-snoops}
-use Rattle.ace_home.proofs.FirstEvents.{grant-had, grant-not-kept, passed-unstuck, read-no-write, snoop-over, transfer-held, transfer-waits, write-held, write-no-passed, write-no-transfer, write-waits}
-use Rattle.ace_home.proofs.Firsts.{takes-none, ungranted-takes-none}
-use Rattle.ace_home.proofs.Waiting.{kept-free}
-
--- ---- lines that are remembered -----------------------------------------------------------------------
-
--- at first there is none
-pub none-remembered : (l : ℕ) → mark_of (record { lines = replicate 1024 None }) l ≡ None
-none-remembered l =
-    let low : slot_of l < 1024 = mod-lt (l / 64) (omega arith) in
-    ap (option_and_then (λ (k : Marked). if k.line == l then Some k.mark else None)) (unwrap_or-slice_get (replicate 1024 None) (slot_of l) None ∙ get_or-replicate 1024 (slot_of l) None None low)
-
-pub some-marked : (o : Option Mark) → is_some o ≡ true → (m : Mark) × (o ≡ Some m)
-some-marked None t = cc
-some-marked (Some m) t = (m, refl)
+use Rattle.ace_home.proofs.FirstEvents.{grant-had, passed-unstuck, read-no-write, snoop-over, transfer-waits, write-no-passed, write-no-transfer, write-waits}
+use Rattle.ace_home.proofs.Firsts.{takes-none}
 
 -- ---- which lines an event may move -------------------------------------------------------------------
 
@@ -182,88 +159,8 @@ held-stays h past e l g a before after held = record {
   unstuck = stuck-same h past e l g a before after ∙ held.unstuck;
 }
 
--- and each line stays as it is marked
-pub marked-stays : (h : Header) (past : Trace) (e : Event) (l : ℕ) (g : Option Grant) (m : Mark) → IsAccepted h (e ∷ past) → GrantStands h past l g → GrantStands h (e ∷ past) l g
-    → IsAsMarked h past l m → IsAsMarked h (e ∷ past) l m
-marked-stays h past e l g HeldUp a before after held = held-stays h past e l g a before after held
-marked-stays h past e l g Snooped a before after snooped = sym (unsnooped-law h (e ∷ past) a l g after) ∙ unsnooped-law h past a.0 l g before ∙ snooped
-
--- with any mark no port is left to snoop
-pub marked-snooped : (h : Header) (past : Trace) (l : ℕ) (m : Mark) → IsAsMarked h past l m → has_unsnooped h past l ≡ false
-marked-snooped h past l HeldUp held = held.snooped
-marked-snooped h past l Snooped snooped = snooped
-
--- and an answer to a snoop leaves that as it is
-pub answer-snooped : (h : Header) (past : Trace) (p resp : ℕ) (st : LineState) (l : ℕ) → has_unsnooped h (Cr p resp st ∷ past) l ≡ has_unsnooped h past l
-answer-snooped h past p resp st l = refl
-
-pub data-snooped : (h : Header) (past : Trace) (p : ℕ) (last : Bool) (word l : ℕ) → has_unsnooped h (Cd p last word ∷ past) l ≡ has_unsnooped h past l
-data-snooped h past p last word l = refl
-
--- and the end of a transaction leaves no more to snoop than there was
-without-fewer : (z g : Option Transaction) (test : Transaction → Bool) → is_some_and g test ≡ false → is_some_and (without z g) test ≡ false
-without-fewer None g test f = f
-without-fewer (Some y) None test f = refl
-without-fewer (Some y) (Some w) test f = elim (cases_Bool (w.place == y.place)) [ inl t ↦ rw t refl | inr n ↦ rw n f ]
-
-pub response-snooped : (h : Header) (past : Trace) (p i resp l : ℕ) → has_unsnooped h past l ≡ false → has_unsnooped h (B p i resp ∷ past) l ≡ false
-response-snooped h past p i resp l none =
-    without-fewer (ended h past (B p i resp)) (granted h past l) (λ x. not (is_begun past x) && list_any (is_unsnooped_beside h past l x) (ports_below h.ports)) none
-
-pub acknowledge-snooped : (h : Header) (past : Trace) (p : ℕ) (st : LineState) (l : ℕ) → has_unsnooped h past l ≡ false → has_unsnooped h (Wk p st ∷ past) l ≡ false
-acknowledge-snooped h past p st l none =
-    without-fewer (ended h past (Wk p st)) (granted h past l) (λ x. not (is_begun past x) && list_any (is_unsnooped_beside h past l x) (ports_below h.ports)) none
-
--- and so does an M
-begun-written : (past : Trace) (p : ℕ) (c : Channel) (i : ℕ) (line : Line) (x : Transaction) → is_begun past x ≡ true → is_begun (M p c i line ∷ past) x ≡ true
-begun-written past p c i line x begun = elim (cases_Bool (is_read x.chan)) [
-  | inl reads ↦ rw reads (sym (ap (λ b. if b then not (transfers past x.port x.id == 0) else has_memory_write past x.port x.chan x.id) reads) ∙ begun)
-  | inr writes ↦
-      let had : has_memory_write past x.port x.chan x.id ≡ true =
-      sym (ap (λ b. if b then not (transfers past x.port x.id == 0) else has_memory_write past x.port x.chan x.id) writes) ∙ begun in
-      rw writes (or_right _ _ had)
-]
-
-pub memory-snooped : (h : Header) (past : Trace) (p : ℕ) (c : Channel) (i : ℕ) (line : Line) (l : ℕ) → has_unsnooped h past l ≡ false → has_unsnooped h (M p c i line ∷ past) l ≡ false
-memory-snooped h past p c i line l none =
-    false_from_ne_true (has_unsnooped h (M p c i line ∷ past) l) (λ t.
-    let now = M p c i line ∷ past in
-    let x = is_some_and-is (granted h past l) (λ x. not (is_begun now x) && list_any (is_unsnooped_beside h past l x) (ports_below h.ports)) t in
-    let both = and_parts (not (is_begun now x.0)) (list_any (is_unsnooped_beside h past l x.0) (ports_below h.ports)) x.2 in
-    let begun = not-true (is_begun now x.0) both.0 in
-    let before : is_begun past x.0 ≡ false = false_from_ne_true (is_begun past x.0) (λ b. let bad : true ≡ false = sym (begun-written past p c i line x.0 b) ∙ begun in cc) in
-    let some : has_unsnooped h past l ≡ true =
-    ap (λ o. is_some_and o (λ x. not (is_begun past x) && list_any (is_unsnooped_beside h past l x) (ports_below h.ports))) x.1 ∙ and_from _ _ (ap not before) both.1 in
-    let bad : true ≡ false = sym some ∙ none in cc)
-
 module _ (among : PortSets) (h : Header) (past : Trace) (a : IsAccepted h past) (p : ℕ) (x : Transaction) (o : IsOf h past p x) (held : IsHeldUp h past x.addr) where
-  -- the line is granted
-  not-free : granted h past x.addr ≡ None → ⊥
-  not-free free =
-      let some = (and_parts (is_some (granted h past x.addr)) (list_any (is_owed_by past x.addr) (ports_below h.ports)) held.answering).0 in
-      let bad : false ≡ true = sym (ap (λ v. is_some v) free) ∙ some in cc
-
-  -- no step may be taken for a transaction of it that may not begin
-  pub held-takes-none : (n : ℕ) → (x.chan ≡ Read → n ≡ transfers past x.port x.id) → ((n == 0) && not x.lock) ≡ true → TakesNoneBelow among all_steps h past x
-  held-takes-none n count fresh = elim (cases_Bool (has_grant past x.port x.chan x.id)) [
-    | inr none ↦ ungranted-takes-none among h past x a p o none
-        (grant-not-kept h past a p x o (false_from_ne_true (is_kept h past (grant_of x)) (λ kept. not-free (kept-free h past a p x o kept))))
-    | inl had ↦ by x.chan refl had
-  ]
-    where
-      waits : ((n == 0) && not x.lock && is_answering h past x.addr) ≡ true
-      waits = and_from _ _ fresh held.answering
-
-      by : (c : Channel) → x.chan ≡ c → has_grant past x.port x.chan x.id ≡ true → TakesNoneBelow among all_steps h past x
-      by Read chan had =
-          takes-none among h past x (grant-had h past a p x o had) (fewer-snoops among h past x (snoop-over h past a p x o held.snooped))
-          (passed-unstuck h past a p x o had held.unstuck) (transfer-held h past a p x o chan had n (count chan) waits)
-          (read-no-write h past a p x o chan)
-      by Write chan had =
-          takes-none among h past x (grant-had h past a p x o had) (fewer-snoops among h past x (snoop-over h past a p x o held.snooped))
-          (write-no-passed h past a p x o chan) (write-no-transfer h past a p x o chan) (write-held h past a p x o chan had n waits)
-
-  -- nor for one that was granted it and hasn't begun
+  -- no step may be taken for a transaction that was granted it and hasn't begun
   pub held-unbegun : has_grant past x.port x.chan x.id ≡ true → (x.chan ≡ Read → transfers past x.port x.id ≡ 0) → has_failed past x ≡ false → TakesNoneBelow among all_steps h past x
   held-unbegun had first unfailed = by x.chan refl
     where

@@ -1,5 +1,5 @@
 -- The bit of a port, set and cleared, and sets of ports side by side.
-use Rattle.std.proofs.Common.{◌≡◌, ℕ, ◌-◌, ◌*◌, ◌%◌, ◌^◌, ◌<◌, zero, suc, min, Bool, true, false, not, ◌&&◌, ◌||◌, nat_eq, nat_lt, bit_and, bit_or, refl, sym, ap, ◌∙◌, arith, inl, inr, w32}
+use Rattle.std.proofs.Common.{◌≡◌, ℕ, ◌-◌, ◌*◌, ◌%◌, ◌^◌, ◌<◌, zero, suc, min, Bool, true, not, ◌&&◌, ◌||◌, nat_eq, nat_lt, bit_and, bit_or, refl, sym, ap, ◌∙◌, arith, inl, inr, w32}
 use Rattle.std.proofs.lemmas.Bool.{cases_Bool, cases_eq, cases_lt, eq-eqb, ltb-true, ne_eqb}
 use Rattle.std.proofs.lemmas.Nat.Bits.{bit_at-lt, bit_at_and, bit_at_not, bit_at_above, bit_at_clear_same, bit_at_clear_other, bit_at_set_same, bit_at_set_other}
 use Rattle.std.specs.Int.{bit_at}
@@ -45,15 +45,6 @@ other-one (suc (suc a)) low = absurd (omega (arith, low))
 
 both-bits : (a b p : ℕ) → nat_eq (bit_at (bit_and a b) p) 1 ≡ (nat_eq (bit_at a p) 1 && nat_eq (bit_at b p) 1)
 both-bits a b p = ap (λ n. nat_eq n 1) (bit_at_and a b p) ∙ lesser-one (bit_at a p) (bit_at b p) (bit_at-lt a p) (bit_at-lt b p)
-
--- the ports of both sets
-pub port_of_both : (a b p : ℕ) → (nat_lt p 32 && nat_eq (bit_at (bit_and a b) p) 1)
-    ≡ ((nat_lt p 32 && nat_eq (bit_at a p) 1) && (nat_lt p 32 && nat_eq (bit_at b p) 1))
-port_of_both a b p = ap (λ t. nat_lt p 32 && t) (both-bits a b p) ∙ spread (nat_lt p 32) (nat_eq (bit_at a p) 1) (nat_eq (bit_at b p) 1)
-  where
-    spread : (l s t : Bool) → (l && (s && t)) ≡ ((l && s) && (l && t))
-    spread true s t = refl
-    spread false s t = refl
 
 -- the ports of the one set that aren't in the other
 pub port_apart : (a b p : ℕ) → b < 2 ^ 32 → (nat_lt p 32 && nat_eq (bit_at (bit_and a (4294967295 - b)) p) 1)

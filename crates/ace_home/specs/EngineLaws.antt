@@ -18,6 +18,6 @@ grows s plan past o stands right other = record {
   legal = legal-longer plan past o stands.legal right;
   shares = stands.shares;
   header = stands.header;
-  marks = stands.marks;
+  users = stands.users;
   resting = stands.resting;
 }

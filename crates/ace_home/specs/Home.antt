@@ -16,29 +16,31 @@ use Rattle.ace_portck.specs.Targets.{progress_of}
 use Rattle.ace_lineck.specs.Stands.{place_on}
 use Rattle.ace_check.specs.Shares.{SharesStand}
 use Rattle.ace_home.specs.declared.home.Home.{Home}
-use Rattle.ace_home.specs.Marks.{IsAsMarked, mark_of}
-use Rattle.ace_home.specs.declared.marks.Mark.{Mark}
-use Rattle.ace_home.specs.declared.marks.MarkedLines.{MarkedLines}
-use Rattle.ace_home.specs.declared.resting.RestingPorts.{RestingPorts}
-use Rattle.ace_home.specs.Resting.{WaitsAt, is_resting}
+use Rattle.ace_home.specs.declared.line_users.LineUsers.{LineUsers}
+use Rattle.ace_home.specs.declared.port_set.PortSet.{PortSet}
+use Rattle.ace_home.specs.Resting.{HasToWait, has_port, may_name}
 
 -- the transaction is an outstanding one of the port
 abbrev pub IsOf : Header → Trace → ℕ → Transaction → Type 0
 IsOf h past p x = (k : ℕ) × (slice_get (pending_of h past p x.chan) k ≡ Some x)
 
--- At these ports each outstanding transaction has to wait.
-abbrev pub AreResting : Header → Trace → MarkedLines → RestingPorts → Type 0
-AreResting h past m s =
-    (p : ℕ) → is_resting s p ≡ true → (x : Transaction) → IsOf h past p x → WaitsAt h past m s p x
+-- Beside the line of each outstanding transaction its port is kept.
+abbrev pub AreUsers : Header → Trace → LineUsers → Type 0
+AreUsers h past s = (p : ℕ) (x : Transaction) → IsOf h past p x → may_name s x.addr p ≡ true
 
--- It keeps what the rules ask of the trace, and the header, each line is as it is marked, and ports
--- that it takes to be at rest are.
+-- At these ports each outstanding transaction has to wait.
+abbrev pub AreResting : Header → Trace → PortSet → Type 0
+AreResting h past s =
+    (p : ℕ) → has_port s p ≡ true → (x : Transaction) → IsOf h past p x → HasToWait h past x
+
+-- It keeps what the rules ask of the trace, the header, and who may name each line, and ports that it
+-- takes to be at rest are.
 pub record HomeStands (s : Home) (plan : Plan) (past : Trace) : Type 0 where
   pub legal : IsLegal plan past
   pub shares : SharesStand s.shares plan.header past
   pub header : s.header ≡ plan.header
-  pub marks : (l : ℕ) (m : Mark) → mark_of s.marks l ≡ Some m → IsAsMarked plan.header past l m
-  pub resting : AreResting plan.header past s.marks s.resting
+  pub users : AreUsers plan.header past s.users
+  pub resting : AreResting plan.header past s.resting
 
 -- it is one of those on the channel
 abbrev pub IsListed : Header → Trace → ℕ → Channel → Transaction → Type 0

@@ -17,10 +17,10 @@ use crate::candidates::snoop_for;
 use crate::due::{Due, put_sooner};
 use crate::least::goes_behind;
 use crate::line_engine::LineEngine;
-use crate::marking::moved_line;
-use crate::marks::MarkedLines;
-use crate::rest::rouse;
-use crate::resting::RestingPorts;
+use crate::line_users::LineUsers;
+use crate::moved::moved_line;
+use crate::port_set::PortSet;
+use crate::rest::{add_user, rouse};
 use crate::service::Service;
 use ace_check::Shares;
 use ace_engine::{Burst, Engine};
@@ -37,8 +37,10 @@ use std::alloc::Global;
 pub struct Home {
     pub(crate) shares: Shares,
     pub(crate) header: Header,
-    pub(crate) marks: MarkedLines,
-    pub(crate) resting: RestingPorts,
+    /// Who may name each line.
+    pub(crate) users: LineUsers,
+    /// Ports for which it can do nothing before an event comes that moves something of theirs.
+    pub(crate) resting: PortSet,
 }
 
 impl Home {
@@ -47,7 +49,7 @@ impl Home {
     /// # Errors
     ///
     /// `NoMemory` where there is none.
-    #[tactic(auto, using(crate::proofs::AtRest::none_at_rest))]
+    #[tactic(auto, using(crate::proofs::AtRest::at_start))]
     pub fn new(alloc: Global, plan: &PlanView) -> Result<Home, NoMemory>
         requires { IsRight plan.now.plan }
         ensures { IfOk result (λ s. HomeStands s plan.now.plan []) }
@@ -59,8 +61,8 @@ impl Home {
         Ok(Home {
             shares,
             header,
-            marks: MarkedLines::none(),
-            resting: RestingPorts::all(),
+            users: LineUsers::none(),
+            resting: PortSet::all(),
         })
     }
 
@@ -159,10 +161,10 @@ impl Home {
             → HomeStands self.new plan (event.now ∷ past) }
     {
         let line = moved_line(event, self.shares.ports());
-        rouse(&mut self.resting, &self.header, event, line);
+        rouse(&mut self.resting, &self.users, &self.header, event, line);
+        add_user(&mut self.users, event);
         self.shares.hear(event);
-        let held = self.renew(event, line);
-        self.rouse_holder(held);
+        self.rouse_holder(line);
         self.look_after(event, line);
     }
 

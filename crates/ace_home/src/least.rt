@@ -9,17 +9,13 @@ ghost use Rattle.ace_model.specs.Trace.{Trace};
 ghost use Rattle.ace_portck.specs.declared.target.Progress.{Progress as Progresses};
 ghost use Rattle.ace_lineck.specs.Stands.{place_on};
 ghost use Rattle.ace_home.specs.Among.{PortSets, has_snoop_among};
-ghost use Rattle.ace_model.specs.Accepted.{IsAccepted};
-ghost use Rattle.ace_portck.specs.Targets.{progress_of};
 ghost use Rattle.ace_home.specs.Home.{IsOf, IsServed, Tells};
-ghost use Rattle.ace_home.specs.Marks.{IsAsMarked};
 ghost use Rattle.ace_home.specs.Services.{TakesNoneBelow, all_steps};
 ghost use Rattle.ace_home.specs.Turns.{IsBehind};
 
 use crate::candidates::is_held_up;
 use crate::due::Due;
 use crate::home::Home;
-use crate::marks::Mark;
 use ace_event::Channel;
 use ace_model::Transaction;
 use ace_portck::Progress;
@@ -43,60 +39,10 @@ pub fn goes_behind(first: &Option<Due>, x: &Transaction, least: u8) -> bool
     }
 }
 
-/// It hasn't begun, and the granted transaction of its line, be it this one or another, is held up.
-/// That isn't told of an exclusive one, which begins all the same where it fails.
-#[inline(always)]
-fn waits(mark: Mark, x: &Progress) -> bool
-    ensures { result ≡ true → (among : PortSets) (h : Headers) (past : Trace) (p : ℕ)
-        → IsAccepted h past → IsOf h past p x.now.transaction
-        → x.now ≡ progress_of h past x.now.transaction
-        → IsAsMarked h past x.now.transaction.addr mark
-        → TakesNoneBelow among all_steps h past x.now.transaction }
-{
-    match mark {
-        Mark::HeldUp => x.transfers == 0 && !x.transaction.lock,
-        Mark::Snooped => false,
-    }
-}
-
 impl Home {
     /// A number below which no step may be taken for the outstanding transaction.
     #[inline(always)]
     pub(crate) fn least(&self, x: &Progress) -> u8
-        ensures { (among : PortSets) (plan : Plan) (past : Trace) (p : ℕ)
-            → Tells self.now plan past p x.now
-            → TakesNoneBelow among result plan.header past x.now.transaction }
-    {
-        match self.marks.of(x.transaction.addr) {
-            Some(mark) => self.least_marked(mark, x),
-            None => self.least_unmarked(x),
-        }
-    }
-
-    /// The same of one whose line has this mark. One that waits for it does so longer than the line
-    /// is held up.
-    #[inline(always)]
-    fn least_marked(&self, mark: Mark, x: &Progress) -> u8
-        ensures { (among : PortSets) (plan : Plan) (past : Trace) (p : ℕ)
-            → Tells self.now plan past p x.now
-            → IsAsMarked plan.header past x.now.transaction.addr mark
-            → TakesNoneBelow among result plan.header past x.now.transaction }
-    {
-        if waits(mark, x) {
-            return ALL_STEPS;
-        }
-        if !x.granted {
-            return self.least_unmarked(x);
-        }
-        match x.transaction.chan {
-            Channel::Read => 7,
-            Channel::Write => 9,
-        }
-    }
-
-    /// The same, without a mark.
-    #[inline(always)]
-    fn least_unmarked(&self, x: &Progress) -> u8
         ensures { (among : PortSets) (plan : Plan) (past : Trace) (p : ℕ)
             → Tells self.now plan past p x.now
             → TakesNoneBelow among result plan.header past x.now.transaction }

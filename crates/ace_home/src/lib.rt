@@ -4,16 +4,16 @@
 
 mod candidates;
 mod due;
+mod held_up;
 mod home;
 pub mod laws;
 mod least;
 mod line_engine;
-mod marking;
-mod marks;
+mod line_users;
+mod moved;
 mod port_set;
 mod queues;
 mod rest;
-mod resting;
 mod service;
 
 pub use home::Home;

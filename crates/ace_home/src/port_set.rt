@@ -79,17 +79,6 @@ impl PortSet {
         }
     }
 
-    /// Those of them that are also in the other set.
-    #[inline(always)]
-    #[tactic(auto, using(crate::proofs::PortBits::port_of_both))]
-    pub fn both(self, other: PortSet) -> PortSet
-        ensures { (p : ℕ) → has_port result p ≡ (has_port self p && has_port other p) }
-    {
-        PortSet {
-            bits: self.bits & other.bits,
-        }
-    }
-
     /// Those of them that aren't in the other set.
     #[inline(always)]
     #[tactic(auto, using(crate::proofs::PortBits::port_apart))]

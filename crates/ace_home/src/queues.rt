@@ -68,28 +68,34 @@ impl Home {
         false
     }
 
-    /// An outstanding transaction of the port goes before it.
-    pub(crate) fn has_older_at(&self, port: u8, x: &Transaction) -> bool
-        ensures { result ≡ true → (plan : Plan) (past : Trace) → HomeStands self.now plan past
+    /// An outstanding transaction of the port goes before it. Only a port that may name the line is
+    /// asked for one.
+    #[inline(always)]
+    fn has_older_at(&self, port: u8, x: &Transaction) -> bool
+        ensures found { result ≡ true → (plan : Plan) (past : Trace) → HomeStands self.now plan past
             → (y : Issued) × IsOf plan.header past port y
             × (goes_before plan.header past y x.now ≡ true) }
+        ensures none { result ≡ false → (plan : Plan) (past : Trace) (y : Issued)
+            → HomeStands self.now plan past → IsOf plan.header past port y
+            → goes_before plan.header past y x.now ≡ false }
     {
+        if !self.users.of(x.addr).has(port) {
+            return false;
+        }
         if self.has_older(port, Channel::Read, x) {
             return true;
         }
         self.has_older(port, Channel::Write, x)
     }
 
-    /// No older transaction waits for the line, which isn't granted, but for those that barriers hold.
+    /// No older transaction waits for the line, which isn't granted, but for those that barriers
+    /// hold.
     pub(crate) fn is_first_to_wait(&self, x: &Transaction) -> bool
         ensures { (plan : Plan) (past : Trace) → HomeStands self.now plan past → granted plan.header past x.now.addr ≡ None
             → result ≡ is_first_to_wait plan.header past x.now }
     {
         for port in 0..self.header.ports {
-            if self.has_older(port, Channel::Read, x) {
-                return false;
-            }
-            if self.has_older(port, Channel::Write, x) {
+            if self.has_older_at(port, x) {
                 return false;
             }
         }

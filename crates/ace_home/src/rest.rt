@@ -9,23 +9,20 @@ ghost use Rattle.ace_model.specs.Exclusives.{has_failed};
 ghost use Rattle.ace_model.specs.Grants.{granted};
 ghost use Rattle.ace_model.specs.Plans.{Plan};
 ghost use Rattle.ace_model.specs.Trace.{Trace, is_some_and};
-ghost use Rattle.ace_runs.specs.LineSteps.{is_first_to_wait};
+ghost use Rattle.ace_model.specs.Transactions.{issued};
 ghost use Rattle.ace_portck.specs.declared.target.Progress.{Progress as Progresses};
 ghost use Rattle.ace_portck.specs.Pending.{pending_of};
 ghost use Rattle.ace_check.specs.Shares.{SharesStand};
+ghost use Rattle.ace_home.specs.HeldUp.{IsHeldUp};
 ghost use Rattle.ace_home.specs.Home.{HomeStands, IsOf, Tells};
-ghost use Rattle.ace_home.specs.Marks.{mark_of};
 ghost use Rattle.ace_home.specs.Resting.{HasToWait, IsUnbegun};
-ghost use Rattle.ace_home.specs.Resting.{is_resting, may_end, may_name, moves_own};
-ghost use Rattle.ace_home.specs.declared.marks.Mark.TheVariants.{HeldUp};
+ghost use Rattle.ace_home.specs.Resting.{has_port, may_end, may_name, moves_own};
 
 use crate::home::Home;
-use crate::marks::Mark;
+use crate::line_users::LineUsers;
 use crate::port_set::PortSet;
-use crate::resting::RestingPorts;
 use ace_event::{Channel, Event, Header};
 use ace_lineck::takes_grant;
-use ace_model::Transaction;
 use ace_model::kinds::is_ace;
 use ace_portck::Progress;
 
@@ -60,33 +57,51 @@ fn may_end(header: &Header, event: &Event) -> bool
 /// The port whose transaction moves with the event rests no more, nor does one that may name its
 /// line, where a transaction may end. `line` is that of the event.
 #[inline(always)]
-pub fn rouse(resting: &mut RestingPorts, header: &Header, event: &Event, line: Option<u32>)
-    ensures own { (p : ℕ) → is_resting resting.new p ≡ true
-        → (is_resting resting.old p ≡ true) × (moves_own event.now p ≡ false) }
-    ensures beside { (p l : ℕ) → is_resting resting.new p ≡ true
-        → may_end header.now event.now ≡ true → line ≡ Some l → may_name resting.old l p ≡ false }
-    ensures known { (l p : ℕ) → may_name resting.new l p ≡ may_name resting.old l p }
+pub fn rouse(
+    resting: &mut PortSet,
+    users: &LineUsers,
+    header: &Header,
+    event: &Event,
+    line: Option<u32>,
+)
+    ensures own { (p : ℕ) → has_port resting.new p ≡ true
+        → (has_port resting.old p ≡ true) × (moves_own event.now p ≡ false) }
+    ensures beside { (p l : ℕ) → has_port resting.new p ≡ true
+        → may_end header.now event.now ≡ true → line ≡ Some l → may_name users.now l p ≡ false }
 {
     if let Some(port) = moved_port(event) {
-        resting.rouse(port);
+        resting.remove(port);
     }
     if !may_end(header, event) {
         return;
     }
     if let Some(line) = line {
-        resting.rouse_beside(line);
+        *resting = resting.apart(users.of(line));
     }
 }
 
-/// The port is known beside the lines of these transactions.
-fn know_lines(resting: &mut RestingPorts, port: u8, queue: &[Progress])
+/// The port of a transaction that begins with the event is beside its line.
+#[inline(always)]
+pub fn add_user(users: &mut LineUsers, event: &Event)
+    ensures more { (l p : ℕ) → may_name users.old l p ≡ true → may_name users.new l p ≡ true }
+    ensures own { (n : ℕ) (x : Issued) → issued n event.now ≡ Some x → x.port < 32
+        → may_name users.new x.addr x.port ≡ true }
+{
+    match *event {
+        Event::Ar { port, addr, .. } => users.add(port, addr),
+        Event::Aw { port, addr, .. } => users.add(port, addr),
+        _ => {}
+    }
+}
+
+/// The port is beside the lines of these transactions.
+fn add_lines(users: &mut LineUsers, port: u8, queue: &[Progress])
     ensures own { port < 32 → (k : ℕ) (y : Progresses) → slice_get queue.now k ≡ Some y
-        → may_name resting.new y.transaction.addr port ≡ true }
-    ensures more { (l p : ℕ) → may_name resting.old l p ≡ true → may_name resting.new l p ≡ true }
-    ensures rest { (p : ℕ) → is_resting resting.new p ≡ is_resting resting.old p }
+        → may_name users.new y.transaction.addr port ≡ true }
+    ensures more { (l p : ℕ) → may_name users.old l p ≡ true → may_name users.new l p ≡ true }
 {
     for i in 0..queue.len() {
-        resting.know(port, queue[i].transaction.addr);
+        users.add(port, queue[i].transaction.addr);
     }
 }
 
@@ -103,50 +118,35 @@ impl Home {
         }
     }
 
-    /// The line is marked as held up.
-    #[inline(always)]
-    pub(crate) fn is_marked_held_up(&self, line: u32) -> bool
-        ensures { result ≡ true → mark_of self.now.marks line ≡ Some HeldUp }
-    {
-        match self.marks.of(line) {
-            Some(Mark::HeldUp) => true,
-            _ => false,
-        }
-    }
-
     /// The port of the transaction that is granted on the line, if there is such a line, rests no
-    /// more, unless the line is marked as held up.
+    /// more, unless the line is held up.
     #[inline(always)]
     pub(crate) fn rouse_holder(&mut self, line: Option<u32>)
-        ensures less { (p : ℕ) → is_resting self.new.resting p ≡ true
-            → is_resting self.old.resting p ≡ true }
+        ensures less { (p : ℕ) → has_port self.new.resting p ≡ true
+            → has_port self.old.resting p ≡ true }
         ensures holder { (h : Headers) (past : Trace) (l : ℕ) (y : Issued)
             → SharesStand self.old.shares h past → line ≡ Some l
-            → granted h past l ≡ Some y → is_resting self.new.resting y.port ≡ true
-            → mark_of self.old.marks l ≡ Some HeldUp }
-        ensures known { (l p : ℕ) → may_name self.new.resting l p ≡ may_name self.old.resting l p }
+            → granted h past l ≡ Some y → has_port self.new.resting y.port ≡ true
+            → IsHeldUp h past l }
         ensures rest { self.new ≡ record self.old { resting = self.new.resting } }
     {
         let Some(line) = line else {
             return;
         };
-        if self.is_marked_held_up(line) {
+        let Some(port) = self.holder(line) else {
             return;
-        }
-        if let Some(port) = self.holder(line) {
-            self.resting.rouse(port);
+        };
+        if self.resting.has(port) && !self.is_line_held_up(line) {
+            self.resting.remove(port);
         }
     }
 
     /// The line is granted.
     #[inline(always)]
     fn is_taken(&self, line: u32) -> bool
-        ensures { result ≡ true → (plan : Plan) (past : Trace) → HomeStands self.now plan past
-            → is_some (granted plan.header past line) ≡ true }
+        ensures { (plan : Plan) (past : Trace) → HomeStands self.now plan past
+            → result ≡ is_some (granted plan.header past line) }
     {
-        if self.is_marked_held_up(line) {
-            return true;
-        }
         let lines = self.shares.lines();
         lines.granted(lines.place(Some(line))).is_some()
     }
@@ -172,34 +172,15 @@ impl Home {
     #[inline(always)]
     fn is_unbegun(&self, x: &Progress) -> bool
         ensures { result ≡ true → x.now.granted ≡ true → (plan : Plan) (past : Trace) (p : ℕ)
-            → Tells self.now plan past p x.now → IsUnbegun self.now.marks past x.now.transaction }
+            → Tells self.now plan past p x.now → IsUnbegun plan.header past x.now.transaction }
     {
-        if !self.is_marked_held_up(x.transaction.addr) {
+        if x.transfers != 0 {
             return false;
         }
-        if self.has_failed(x) {
+        if !self.is_line_held_up(x.transaction.addr) {
             return false;
         }
-        x.transfers == 0
-    }
-
-    /// An older transaction that waits for its line goes first, of a port that is known beside it.
-    fn goes_later(&self, x: &Transaction) -> bool
-        ensures { result ≡ true → (plan : Plan) (past : Trace) → HomeStands self.now plan past
-            → granted plan.header past x.now.addr ≡ None
-            → is_first_to_wait plan.header past x.now ≡ false }
-    {
-        let mut beside = self.resting.beside(x.addr);
-        beside.remove(x.port);
-        if beside.is_empty() {
-            return false;
-        }
-        for port in 0..self.header.ports {
-            if beside.has(port) && self.has_older_at(port, x) {
-                return true;
-            }
-        }
-        false
+        !self.has_failed(x)
     }
 
     /// The home can do nothing for the outstanding transaction before an event comes.
@@ -207,7 +188,7 @@ impl Home {
     fn has_to_wait(&self, x: &Progress) -> bool
         ensures { result ≡ true → (plan : Plan) (past : Trace) (p : ℕ)
             → Tells self.now plan past p x.now
-            → HasToWait plan.header past self.now.marks x.now.transaction }
+            → HasToWait plan.header past x.now.transaction }
     {
         if x.granted {
             return self.is_unbegun(x);
@@ -218,19 +199,20 @@ impl Home {
         if self.is_taken(x.transaction.addr) {
             return true;
         }
-        self.goes_later(&x.transaction)
+        !self.is_first_to_wait(&x.transaction)
     }
 
-    /// It can do nothing for any of the port on the channel.
+    /// It can do nothing for any of the port on the channel. The last one is asked first, as it is
+    /// the first to have a step most often.
     fn all_wait(&self, port: u8, chan: Channel) -> bool
         ensures { result ≡ true → (plan : Plan) (past : Trace) (k : ℕ) (y : Issued)
             → HomeStands self.now plan past
             → slice_get (pending_of plan.header past port chan) k ≡ Some y
-            → HasToWait plan.header past self.now.marks y }
+            → HasToWait plan.header past y }
     {
         let queue = self.queue(port, chan);
         for i in 0..queue.len() {
-            if !self.has_to_wait(&queue[i]) {
+            if !self.has_to_wait(&queue[queue.len() - 1 - i]) {
                 return false;
             }
         }
@@ -241,58 +223,33 @@ impl Home {
     fn may_rest(&self, port: u8) -> bool
         ensures { result ≡ true → (plan : Plan) (past : Trace) (x : Issued)
             → HomeStands self.now plan past → IsOf plan.header past port x
-            → HasToWait plan.header past self.now.marks x }
+            → HasToWait plan.header past x }
     {
         self.all_wait(port, Channel::Read) && self.all_wait(port, Channel::Write)
     }
 
-    /// The port is known beside the lines of its transactions.
-    fn know(&mut self, port: u8)
-        ensures stands { (plan : Plan) (past : Trace) → HomeStands self.old plan past
-            → HomeStands self.new plan past }
-        ensures own { port < 32 → (plan : Plan) (past : Trace) (x : Issued)
-            → HomeStands self.old plan past → IsOf plan.header past port x
-            → may_name self.new.resting x.addr port ≡ true }
-        ensures rest { self.new ≡ record self.old { resting = self.new.resting } }
-    {
-        let ports = self.shares.ports();
-        know_lines(&mut self.resting, port, ports.reads(port));
-        know_lines(&mut self.resting, port, ports.writes(port));
-    }
-
-    /// The port is known beside the line.
-    fn know_line(&mut self, port: u8, line: u32)
-        ensures { (plan : Plan) (past : Trace) → HomeStands self.old plan past
-            → HomeStands self.new plan past }
-    {
-        self.resting.know(port, line);
-    }
-
-    /// The port is at rest, if it may be, and known beside the lines of its transactions then.
+    /// The port is at rest, if it may be.
     fn look(&mut self, port: u8)
         ensures { (plan : Plan) (past : Trace) → HomeStands self.old plan past
             → HomeStands self.new plan past }
     {
-        if port < 32 && self.may_rest(port) {
-            self.know(port);
+        if self.may_rest(port) {
             self.resting.add(port);
         }
     }
 
-    /// The ports beside the line that aren't at rest, which aren't known beside it any more.
-    fn take_awake(&mut self, line: u32) -> PortSet
-        ensures { (plan : Plan) (past : Trace) → HomeStands self.old plan past
-            → HomeStands self.new plan past }
-    {
-        self.resting.take_awake(line)
-    }
-
-    /// The port isn't at rest, nor known beside the line any more.
+    /// The port is beside the line no more, unless one of its transactions names such a line.
     fn forget(&mut self, port: u8, line: u32)
         ensures { (plan : Plan) (past : Trace) → HomeStands self.old plan past
             → HomeStands self.new plan past }
     {
-        self.resting.forget(port, line);
+        if port >= 32 {
+            return;
+        }
+        let ports = self.shares.ports();
+        self.users.remove(port, line);
+        add_lines(&mut self.users, port, ports.reads(port));
+        add_lines(&mut self.users, port, ports.writes(port));
     }
 
     /// Each of the ports is at rest, if it may be.
@@ -307,39 +264,34 @@ impl Home {
         }
     }
 
-    /// The same of the ports but this one that aren't at rest and are known beside the line, if
-    /// there is one: a transaction of this port was granted it.
+    /// The same of the ports beside the line, if there is one, that aren't at rest, but for this
+    /// one.
     #[inline(always)]
-    fn look_at_grant(&mut self, port: u8, line: Option<u32>)
+    fn look_beside(&mut self, port: u8, line: Option<u32>)
         ensures { (plan : Plan) (past : Trace) → HomeStands self.old plan past
             → HomeStands self.new plan past }
     {
         let Some(line) = line else {
             return;
         };
-        let mut awake = self.take_awake(line);
+        let mut awake = self.users.of(line).apart(self.resting);
         awake.remove(port);
         if !awake.is_empty() {
             self.look_each(awake);
         }
     }
 
-    /// The same of this port, of which a transaction has ended, and of those that are known beside
-    /// its line, if there is one.
+    /// The same of this port, of which a transaction has ended, and of those that are beside its
+    /// line, if there is one.
     fn look_at_end(&mut self, port: u8, line: Option<u32>)
         ensures { (plan : Plan) (past : Trace) → HomeStands self.old plan past
             → HomeStands self.new plan past }
     {
-        let Some(line) = line else {
-            self.look(port);
-            return;
-        };
-        self.forget(port, line);
-        self.look(port);
-        let beside = self.resting.beside(line);
-        if !beside.is_empty() {
-            self.look_each(beside);
+        if let Some(line) = line {
+            self.forget(port, line);
         }
+        self.look(port);
+        self.look_beside(port, line);
     }
 
     /// The same of the port of the transaction that is granted on the line, where it is held up.
@@ -351,7 +303,7 @@ impl Home {
         let Some(line) = line else {
             return;
         };
-        if !self.is_marked_held_up(line) {
+        if !self.is_line_held_up(line) {
             return;
         }
         if let Some(port) = self.holder(line) {
@@ -368,10 +320,7 @@ impl Home {
             → HomeStands self.new plan past }
     {
         match *event {
-            Event::Ar { port, addr, .. } | Event::Aw { port, addr, .. } => {
-                self.know_line(port, addr);
-                self.look(port);
-            }
+            Event::Ar { port, .. } | Event::Aw { port, .. } => self.look(port),
             Event::Rk { port, .. } | Event::Wk { port, .. } => self.look_at_end(port, line),
             Event::B { port, .. }
             | Event::R {
@@ -381,7 +330,7 @@ impl Home {
             } => if !is_ace(&self.header, port) {
                 self.look_at_end(port, line);
             },
-            Event::G { port, .. } => self.look_at_grant(port, line),
+            Event::G { port, .. } => self.look_beside(port, line),
             Event::Ac { .. }
             | Event::M {
                 chan: Channel::Read,

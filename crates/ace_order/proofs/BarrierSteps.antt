@@ -50,8 +50,11 @@ use Rattle.ace_runs.proofs.NeverStuck.Updates.EvictsMove.{response-kept}
 use Rattle.ace_engine.specs.Engines.{IsLegal}
 use Rattle.ace_engine.proofs.OfInterconnect.{legal-with}
 use Rattle.ace_sysck.specs.declared.barriers.OpenPair.{OpenPair}
-use Rattle.ace_sysck.specs.Barriers.{TellsOpenPair, pair_in}
+use Rattle.ace_sysck.specs.declared.barriers.Barrier.{Barrier}
+use Rattle.ace_sysck.specs.Barriers.{BarrierStands, TellsOpenPair, open_of, pair_in}
+use Rattle.ace_sysck.proofs.BarrierAnswers.{tells_open}
 use Rattle.ace_order.specs.Order.{AreAnsweredTogether, IsAnswerable}
+use Rattle.ace_order.specs.Waiting.{HasToWait}
 use Rattle.ace_order.proofs.BothAnswered.{both-answered}
 use Rattle.ace_order.proofs.FourSteps.{answers-barrier}
 use Rattle.ace_order.proofs.PlainReads.{IsPlain, kept-undone}
@@ -306,6 +309,15 @@ none-kept h past p b a tells broken = false_from_ne_true (may_serve barrier_burs
     let s = served-pair h past p a may in
     let same : pair_in b ≡ s.pair = Some-injective (pair_in b) s.pair (told-pair h past p (Some b) tells s) in
     let bad : false ≡ true = sym broken ∙ ap (λ (v : Pair). is_kept h past (plain_transfer v.read)) same ∙ s.kept in cc)
+
+-- nor where the port's barrier has to wait
+pub none-waiting : (h : Header) (past : Trace) (p : ℕ) (b : Barrier) → IsAccepted h past → AreAnsweredTogether past → BarrierStands past p b → HasToWait past p → may_serve barrier_burst h past p ≡ false
+none-waiting h past p b a t stands w = false_from_ne_true (may_serve barrier_burst h past p) (λ may.
+    let s = served-pair h past p a may in
+    let tells = tells_open past p b stands in
+    let same : w.pair ≡ s.pair = Some-injective w.pair s.pair (sym (tells.only w.number w.pair w.there w.undone) ∙ told-pair h past p (open_of b) tells s) in
+    let waits : IsWaiting h past p s.pair = record { accepted = a; number = s.number; there = s.there; read_undone = s.undone; write_undone = sym (t p s.number s.pair s.there) ∙ s.undone } in
+    let bad : false ≡ true = sym w.held ∙ ap (may_answer past p) same ∙ may-before h past p s.pair waits s.kept in cc)
 
 -- of the pair that isn't complete neither half is, where the halves are answered together
 pub open-waits : (h : Header) (past : Trace) (p : ℕ) (b : OpenPair) → IsAccepted h past → AreAnsweredTogether past → TellsOpenPair past p (Some b) → IsWaiting h past p (pair_in b)

@@ -6,6 +6,8 @@ pub mod PlainReads
 pub mod Together
 -- The R and the B of a barrier pair leave all pairs answered together.
 pub mod BothAnswered
+-- A barrier that has to wait has to until an event belongs to a transaction of its port.
+pub mod Waits
 -- The R and the B of a barrier pair that may have them are a step.
 pub mod BarrierSteps
 -- What stays with an event that is none of the engine's own.

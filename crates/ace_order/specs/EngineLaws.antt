@@ -22,6 +22,7 @@ grows s plan past o stands right other = record {
     snoops = stands.current.snoops;
     system = stands.current.system;
     lines = stands.current.lines;
+    waiting = stands.current.waiting;
   };
   answered = stands.answered;
   forwarded = stands.forwarded;

@@ -2,3 +2,4 @@
 pub mod EngineLaws
 pub mod Messages
 pub mod Order
+pub mod Waiting

@@ -18,9 +18,11 @@ use Rattle.ace_portck.specs.Stands as portck
 use Rattle.ace_sysck.specs.declared.inboxes.Message.{Message}
 use Rattle.ace_sysck.specs.Stands as sysck
 use Rattle.ace_order.specs.Messages.{IsForwardedWhole, next_for}
+use Rattle.ace_order.specs.Waiting.{HasToWait, is_waiting}
 use Rattle.ace_order.specs.declared.order.Order.{Order}
 
--- It keeps what there is of each port and of the system, and has room for all snoops and lines of a plan.
+-- It keeps what there is of each port and of the system, and has room for all snoops and lines of a plan. Each barrier that it takes to wait
+-- has to.
 pub record IsCurrent (s : Order) (plan : Plan) (past : Trace) : Type 0 where
   pub legal : IsLegal plan past
   pub header : s.header ≡ plan.header
@@ -28,6 +30,7 @@ pub record IsCurrent (s : Order) (plan : Plan) (past : Trace) : Type 0 where
   pub snoops : portck.IsRoomy most_snoops s.ports
   pub system : sysck.Stands s.system (record { header = plan.header; past = past })
   pub lines : sysck.IsRoomy most_lines past s.system
+  pub waiting : (p : ℕ) → is_waiting s.waiting p ≡ true → HasToWait past p
 
 -- The halves of a barrier pair are answered together.
 abbrev pub AreAnsweredTogether : Trace → Type 0

@@ -3,5 +3,6 @@
 
 mod events;
 mod order;
+mod waiting;
 
 pub use order::Order;

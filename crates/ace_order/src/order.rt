@@ -25,6 +25,7 @@ use crate::events::{
     forwarding, has_message_part, is_dvm, is_message_part, plain_transfer, response,
     sync_completion,
 };
+use crate::waiting::Waiting;
 use ace_codes::SnoopKind;
 use ace_engine::{Burst, Engine};
 use ace_event::{Event, Header};
@@ -37,12 +38,14 @@ use std::alloc::Global;
 
 /// The engine of barriers and DVM. It answers both halves of a barrier at once, when what is before the barrier has come far enough; it
 /// forwards each DVM message as a whole, to all ports for which it is the next; it responds to a part of a message once every port has
-/// answered it, and to a DVM Complete; and it completes a Sync once every port has sent its DVM Complete.
+/// answered it, and to a DVM Complete; and it completes a Sync once every port has sent its DVM Complete. A barrier that was found to have to
+/// wait isn't asked for again before an event comes that may end the wait.
 #[derive(Drop)]
 pub struct Order {
     header: Header,
     ports: PortCheck,
     system: SysCheck,
+    waiting: Waiting,
 }
 
 impl Order {
@@ -66,6 +69,7 @@ impl Order {
             header,
             ports,
             system,
+            waiting: Waiting::none(),
         })
     }
 
@@ -75,6 +79,7 @@ impl Order {
     {
         self.system.hear(&self.ports, event);
         self.ports.hear(event);
+        self.waiting.hear(event, &self.ports, &self.system);
     }
 
     /// Hears the event, and puts it in the burst, if that isn't full.
@@ -122,6 +127,9 @@ impl Order {
             → IsAnswerable plan.header past port (pair_in b) }
         ensures none { result ≡ None → (plan : Plan) (past : Trace) → OrderStands self.now plan past → may_serve barrier_burst plan.header past port ≡ false }
     {
+        if self.waiting.has(port) {
+            return None;
+        }
         let Some(pair) = self.system.open_pair(port) else {
             return None;
         };

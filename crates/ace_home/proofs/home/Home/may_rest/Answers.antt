@@ -8,5 +8,5 @@ use Rattle.ace_home.proofs.home.Home.may_rest.Goals as goal
 pub returns-then-all_wait : goal.returns-then-all_wait
 returns-then-all_wait c = λ writes plan past x s o.
     let h = plan.header in
-    of-each-channel (λ (d : Channel). (k : ℕ) → slice_get (pending_of h past c.args.port d) k ≡ Some x → HasToWait h past c.args.self.now.marks x)
+    of-each-channel (λ (d : Channel). (k : ℕ) → slice_get (pending_of h past c.args.port d) k ≡ Some x → HasToWait h past x)
     (λ k at. c.all_wait.ensures c.if-all_wait.true plan past k x s at) (λ k at. c.all_wait-then-all_wait.ensures writes plan past k x s at) x.chan o.0 o.1

@@ -36,4 +36,4 @@ returns-then-has-clause-none g c = λ _ plan past s.
     let p = c.args.port in
     let among = g.F.Among.has c.args.among.now in
     none-enabled among plan past p (λ y o.
-    waiting-takes-none among plan.header past s.legal.accepted p y o c.args.self.now.marks s.marks (s.resting p (sym c.has.ensures ∙ c.if-has.true) y o).waits)
+    waiting-takes-none among plan.header past s.legal.accepted p y o (s.resting p (sym c.has.ensures ∙ c.if-has.true) y o))

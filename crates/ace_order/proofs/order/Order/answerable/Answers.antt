@@ -5,9 +5,14 @@ use Rattle.ace_runs.specs.OrderSteps.{plain_transfer}
 use Rattle.ace_sysck.specs.declared.barriers.OpenPair.{OpenPair}
 use Rattle.ace_sysck.specs.Barriers.{TellsOpenPair, pair_in}
 use Rattle.ace_order.specs.Order.{IsAnswerable}
-use Rattle.ace_order.proofs.BarrierSteps.{none-kept, none-open, open-waits, read-half, waits-plain}
+use Rattle.ace_order.proofs.BarrierSteps.{none-kept, none-open, none-waiting, open-waits, read-half, waits-plain}
 use Rattle.ace_order.proofs.PlainReads.{named-out, plain-decides}
 use Rattle.ace_order.proofs.order.Order.answerable.Goals as goal
+
+pub returns-then-has-clause-none : goal.returns-then-has-clause-none
+returns-then-has-clause-none c = λ _ plan past s.
+    let p = c.args.port in
+    none-waiting plan.header past p _ s.current.legal.accepted s.answered (s.current.system.barriers.ports p) (s.current.waiting p (sym c.has.ensures ∙ c.if-has.true))
 
 pub returns-in_default-clause-none : goal.returns-in_default-clause-none
 returns-in_default-clause-none c = λ _ plan past s.

@@ -1,4 +1,4 @@
-use Rattle.std.proofs.Common.{[], refl, subst, sym}
+use Rattle.std.proofs.Common.{◌≡◌, ◌∙◌, true, false, [], refl, subst, sym}
 use Rattle.ace_event.specs.declared.header.Header.{Header}
 use Rattle.ace_event.specs.Ports.{IsHeader}
 use Rattle.ace_portck.specs.Stands as portck
@@ -17,6 +17,7 @@ returns c =
         snoops = c.in-Ok.ensures.room;
         system = subst (λ (h : Header). sysck.Stands c.in-Ok-with_room.system (record { header = h; past = [] })) e (c.in-Ok-with_room.ensures.stands (subst IsHeader (sym e) right.header));
         lines = c.in-Ok-with_room.ensures.room;
+        waiting = λ p now. let bad : false ≡ true = sym (c.none.ensures p) ∙ now in cc;
       };
       answered = λ p k b there. cc;
       forwarded = λ q. ([], [], refl, refl);

@@ -9,16 +9,18 @@ returns c = λ plan past s legal.
     let few = few-events-there plan past s.legal in
     let heard = c.hear.ensures 4096 r
     (record { stands = s.system; ports = s.ports; room = s.lines; few_lines = few-lines-known plan past s.legal; kept = legal.accepted.1; few = few }) in
+    let ports = c.hear-2.ensures.stands r (record {
+      stands = s.ports;
+      room = room-for-event plan past e c.args.self.now.ports legal s.ports.ports s.snoops;
+      keeps = legal.accepted.1;
+      few = few;
+    }) in
     record {
       legal = legal;
       header = s.header;
-      ports = c.hear-2.ensures.stands r (record {
-        stands = s.ports;
-        room = room-for-event plan past e c.args.self.now.ports legal s.ports.ports s.snoops;
-        keeps = legal.accepted.1;
-        few = few;
-      });
+      ports = ports;
       snoops = c.hear-2.ensures.room 24576 s.snoops;
       system = heard.stands;
       lines = heard.room;
+      waiting = c.hear-3.ensures plan.header past ports heard.stands s.waiting;
     }
