@@ -5,6 +5,7 @@ pub mod Escaping
 pub mod GroupSteps
 pub mod GroupTexts
 pub mod JsonLines
+pub mod PartSteps
 pub mod Parts
 pub mod RowSteps
 pub mod Slashes

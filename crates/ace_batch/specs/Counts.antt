@@ -1,7 +1,7 @@
 -- How many traces came out how, and the status of all of them.
-use Rattle.std.specs.Prelude.{ℕ, ◌==◌, Bool, if◌then◌else◌, List, [], ◌∷◌, count_by, sum_by}
+use Rattle.std.specs.Prelude.{ℕ, ◌==◌, ◌&&◌, Bool, false, if◌then◌else◌, nat_lt, List, [], ◌∷◌, Option, None, Some, count_by, sum_by}
 use Rattle.std.specs.List.{list_any}
-use Rattle.ace_batch.specs.Outcomes.{status_of}
+use Rattle.ace_batch.specs.Outcomes.{is_accepted, status_of}
 use Rattle.ace_batch.specs.declared.entry.Entry.{Entry}
 
 -- the trace has this status
@@ -15,6 +15,19 @@ count_of status entries = count_by (has_status status) entries
 -- how many events were judged
 abbrev pub events_of : List Entry → ℕ
 events_of entries = sum_by (λ e. e.events) entries
+
+-- some are outstanding
+abbrev pub has_some : Option ℕ → Bool
+has_some None = false
+has_some (Some count) = nat_lt 0 count
+
+-- the trace is accepted, and transactions are outstanding at its end
+abbrev pub is_open : Entry → Bool
+is_open e = is_accepted e.outcome && has_some e.outstanding
+
+-- so many are
+abbrev pub open_count : List Entry → ℕ
+open_count entries = count_by is_open entries
 
 -- the first of these statuses that one of the traces has, or else 0
 abbrev pub first_of : List ℕ → List Entry → ℕ

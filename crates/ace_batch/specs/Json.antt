@@ -4,9 +4,10 @@ use Rattle.ace_batch.specs.Escapes.{json_text}
 use Rattle.ace_batch.specs.Outcomes.{verdict_of}
 use Rattle.ace_batch.specs.declared.entry.Entry.{Entry}
 
-abbrev pub line_json : Option ℕ → List ℕ
-line_json None = codes "null"
-line_json (Some line) = decimal line
+-- a number, if there is one
+abbrev pub number_json : Option ℕ → List ℕ
+number_json None = codes "null"
+number_json (Some number) = decimal number
 
 -- a member whose value is a text, behind its name
 unfoldable pub member_json : List ℕ → List ℕ → List ℕ
@@ -18,10 +19,17 @@ which_json e =
     member_json (codes "{\"file\":\"") (string_bytes e.path)
     ++ member_json (codes ",\"verdict\":\"") (verdict_of e.outcome)
 
--- how many events were judged, and the line that is refused or malformed
+unfoldable pub outstanding_name : List ℕ
+outstanding_name = codes ",\"outstanding\":"
+
+-- how many events were judged, and how many transactions are outstanding behind them
+unfoldable pub events_json : Entry → List ℕ
+events_json e =
+    codes ",\"events\":" ++ (decimal e.events ++ (outstanding_name ++ number_json e.outstanding))
+
+-- the same, and the line that is refused or malformed
 unfoldable pub numbers_json : Entry → List ℕ
-numbers_json e =
-    codes ",\"events\":" ++ (decimal e.events ++ (codes ",\"line\":" ++ line_json e.line))
+numbers_json e = events_json e ++ (codes ",\"line\":" ++ number_json e.line)
 
 -- what is wrong with it
 unfoldable pub signature_name : List ℕ

@@ -1,6 +1,6 @@
 -- What is told of many traces.
 use Rattle.std.specs.Prelude.{ℕ, Bool, ◌==◌, ◌%◌, ◌-◌, ◌&&◌, ◌++◌, if◌then◌else◌, nat_lt, List, [], ◌∷◌, codes, decimal, flat_map, length, replicate}
-use Rattle.ace_batch.specs.Counts.{count_of, events_of}
+use Rattle.ace_batch.specs.Counts.{count_of, events_of, open_count}
 use Rattle.ace_batch.specs.Groups.{Group, groups_of}
 use Rattle.ace_batch.specs.Rows.{padded, place_text, rows_text}
 use Rattle.ace_batch.specs.declared.entry.Entry.{Entry}
@@ -88,9 +88,22 @@ groups_text [] = []
 groups_text (g ∷ groups) =
     heading_text (length (g ∷ groups)) ++ flat_map group_text (g ∷ groups)
 
+-- how many accepted traces end with transactions outstanding, where some do
+unfoldable pub open_end : ℕ → List ℕ
+open_end count =
+    if count == 1 then codes " accepted trace ends with transactions outstanding\n"
+    else codes " accepted traces end with transactions outstanding\n"
+
+unfoldable pub open_text : ℕ → List ℕ
+open_text count = if count == 0 then [] else codes "\n" ++ (decimal count ++ open_end count)
+
+-- the groups, and how many are so
+unfoldable pub findings_text : List Entry → List ℕ
+findings_text entries = groups_text (groups_of entries) ++ open_text (open_count entries)
+
 -- the summary, with an empty line before it
 unfoldable pub summary_text : List Entry → List ℕ
-summary_text entries = codes "\n" ++ (counts_line entries ++ groups_text (groups_of entries))
+summary_text entries = codes "\n" ++ (counts_line entries ++ findings_text entries)
 
 -- what is told of the traces: their lines, and the summary
 unfoldable pub told_text : Bool → List Entry → List ℕ

@@ -1,7 +1,7 @@
 // How many traces came out how, and the status of all of them.
 ghost use Rattle.std.specs.Prelude.{◌≡◌, ◌≢◌, ◌≤◌, length};
 ghost use Rattle.std.specs.List.{list_any};
-ghost use Rattle.ace_batch.specs.Counts.{count_of, events_of, first_of, has_status, order, status_of_all};
+ghost use Rattle.ace_batch.specs.Counts.{count_of, events_of, first_of, has_some, has_status, is_open, open_count, order, status_of_all};
 
 use crate::entry::Entry;
 
@@ -24,6 +24,38 @@ pub(crate) fn count_of(status: u8, entries: &[Entry]) -> usize
     let mut count = 0;
     for entry in entries {
         if has_status(status, entry) {
+            count += 1;
+        }
+    }
+    count
+}
+
+/// Some are outstanding.
+fn has_some(outstanding: Option<u64>) -> bool
+    ensures { result ≡ has_some outstanding }
+{
+    match outstanding {
+        Some(count) => count > 0,
+        None => false,
+    }
+}
+
+/// The trace is accepted, and transactions are outstanding at its end.
+fn is_open(entry: &Entry) -> bool
+    ensures { result ≡ is_open entry.now }
+{
+    entry.outcome.status() == 0 && has_some(entry.outstanding)
+}
+
+/// So many traces are.
+#[tactic(auto, using(crate::proofs::CountSteps::opens))]
+pub(crate) fn open_count(entries: &[Entry]) -> usize
+    ensures value { result ≡ open_count entries.now }
+    ensures bound { result ≤ length entries.now }
+{
+    let mut count = 0;
+    for entry in entries {
+        if is_open(entry) {
             count += 1;
         }
     }

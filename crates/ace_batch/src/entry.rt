@@ -10,6 +10,8 @@ pub struct Entry {
     /// How many events were judged: all of a trace whose events are accepted, and of a refused one
     /// those up to the first that breaks a rule.
     pub events: u64,
+    /// How many transactions are outstanding at the end of an accepted trace.
+    pub outstanding: Option<u64>,
     /// The line that is refused or malformed.
     pub line: Option<u64>,
     /// What traces that fail alike have in common: the broken clause, as K12d, the reason, as F5,

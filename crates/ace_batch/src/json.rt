@@ -1,6 +1,7 @@
 // The results of many traces as JSON, an object a line.
-ghost use Rattle.std.specs.Prelude.{◌≡◌, ◌++◌, flat_map, OnOk};
-ghost use Rattle.ace_batch.specs.Json.{count_json, end_json, entry_json, head_json, line_json, member_json, message_name, numbers_json, part_json, results_json, signature_name, traces_name, which_json, why_json, words_json};
+ghost use Rattle.std.specs.Prelude.{◌≡◌, ◌≤◌, ◌++◌, [], flat_map, if◌then◌else◌, length, OnOk};
+ghost use Rattle.ace_batch.specs.Shards.{is_in, part_of};
+ghost use Rattle.ace_batch.specs.Json.{count_json, end_json, entry_json, events_json, head_json, member_json, message_name, number_json, numbers_json, outstanding_name, part_json, results_json, signature_name, traces_name, which_json, why_json, words_json};
 
 use crate::entry::Entry;
 use crate::escape::push_json;
@@ -8,12 +9,12 @@ use crate::push::{push, push_number};
 use crate::shard::Shard;
 use ace_io::NoMemory;
 
-/// Adds the number of the line, or that there is none.
-fn push_line(text: &mut Vec<u8>, line: Option<u64>) -> Result<(), NoMemory>
-    ensures { OnOk result (text.new.items ≡ text.old.items ++ line_json line) }
+/// Adds the number, or that there is none.
+fn push_optional(text: &mut Vec<u8>, number: Option<u64>) -> Result<(), NoMemory>
+    ensures { OnOk result (text.new.items ≡ text.old.items ++ number_json number) }
 {
-    match line {
-        Some(line) => push_number(text, line),
+    match number {
+        Some(number) => push_number(text, number),
         None => push(text, b"null"),
     }
 }
@@ -37,15 +38,33 @@ fn push_which(text: &mut Vec<u8>, entry: &Entry) -> Result<(), NoMemory>
     push_member(text, b",\"verdict\":\"", entry.outcome.verdict())
 }
 
-/// Adds how many events were judged, and the line that is refused or malformed.
+/// The name of the member for what is outstanding.
+#[tactic(auto, unfolding(crate::specs::Json::outstanding_name))]
+fn outstanding_name() -> &'static [u8]
+    ensures { result.now ≡ outstanding_name }
+{
+    b",\"outstanding\":"
+}
+
+/// Adds how many events were judged, and how many transactions are outstanding behind them.
+#[tactic(auto, unfolding(crate::specs::Json::events_json))]
+fn push_events(text: &mut Vec<u8>, entry: &Entry) -> Result<(), NoMemory>
+    ensures { OnOk result (text.new.items ≡ text.old.items ++ events_json entry.now) }
+{
+    push(text, b",\"events\":")?;
+    push_number(text, entry.events)?;
+    push(text, outstanding_name())?;
+    push_optional(text, entry.outstanding)
+}
+
+/// Adds the same, and the line that is refused or malformed.
 #[tactic(auto, unfolding(crate::specs::Json::numbers_json))]
 fn push_numbers(text: &mut Vec<u8>, entry: &Entry) -> Result<(), NoMemory>
     ensures { OnOk result (text.new.items ≡ text.old.items ++ numbers_json entry.now) }
 {
-    push(text, b",\"events\":")?;
-    push_number(text, entry.events)?;
+    push_events(text, entry)?;
     push(text, b",\"line\":")?;
-    push_line(text, entry.line)
+    push_optional(text, entry.line)
 }
 
 /// The name of the member for the signature.
@@ -100,6 +119,55 @@ fn push_entries(text: &mut Vec<u8>, entries: &[Entry]) -> Result<(), NoMemory>
 {
     for entry in entries {
         push_entry(text, entry)?;
+    }
+    Ok(())
+}
+
+/// One, where the place is in this part, and else none.
+fn one_in(shard: &Shard, place: usize) -> usize
+    ensures value { result ≡ (if is_in shard.now.part shard.now.parts place then 1 else 0) }
+    ensures bound { result ≤ 1 }
+{
+    if shard.has(place) { 1 } else { 0 }
+}
+
+/// How many of the traces are in this part of their list.
+#[tactic(auto, using(crate::proofs::PartSteps::counts))]
+fn count_in(shard: &Shard, entries: &[Entry]) -> usize
+    ensures { result ≡ length (part_of shard.now.part shard.now.parts entries.now) }
+{
+    let mut count = 0;
+    for place in 0..entries.len() {
+        count += one_in(shard, place);
+    }
+    count
+}
+
+/// Adds the line of the trace at this place, if it is in this part.
+fn push_entry_in(
+    text: &mut Vec<u8>,
+    shard: &Shard,
+    place: usize,
+    entry: &Entry,
+) -> Result<(), NoMemory>
+    ensures { OnOk result (text.new.items ≡ text.old.items
+        ++ (if is_in shard.now.part shard.now.parts place then entry_json entry.now else [])) }
+{
+    if shard.has(place) {
+        push_entry(text, entry)
+    } else {
+        Ok(())
+    }
+}
+
+/// Adds the lines of those that are in this part.
+#[tactic(auto, using(crate::proofs::PartSteps::lines))]
+fn push_entries_in(text: &mut Vec<u8>, shard: &Shard, entries: &[Entry]) -> Result<(), NoMemory>
+    ensures { OnOk result (text.new.items ≡ text.old.items ++ flat_map entry_json
+        (part_of shard.now.part shard.now.parts entries.now)) }
+{
+    for place in 0..entries.len() {
+        push_entry_in(text, shard, place, &entries[place])?;
     }
     Ok(())
 }
@@ -168,4 +236,25 @@ pub fn push_results(text: &mut Vec<u8>, shard: &Shard, entries: &[Entry]) -> Res
     push_head(text, shard, entries.len() as u64)?;
     push_entries(text, entries)?;
     push_end(text, entries.len() as u64)
+}
+
+/// Adds the results of those traces of a list that are in this part of it, as `push_results` adds
+/// those of the part alone.
+///
+/// # Errors
+///
+/// `NoMemory` where there is none for the longer text.
+#[tactic(auto, unfolding(crate::specs::Json::results_json))]
+pub fn push_part_results(
+    text: &mut Vec<u8>,
+    shard: &Shard,
+    entries: &[Entry],
+) -> Result<(), NoMemory>
+    ensures { OnOk result (text.new.items ≡ text.old.items ++ results_json shard.now.part
+        shard.now.parts (part_of shard.now.part shard.now.parts entries.now)) }
+{
+    let count = count_in(shard, entries) as u64;
+    push_head(text, shard, count)?;
+    push_entries_in(text, shard, entries)?;
+    push_end(text, count)
 }

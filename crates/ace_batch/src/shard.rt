@@ -25,7 +25,7 @@ impl Shard {
     }
 
     /// The place, counted from 0, is in this part.
-    fn has(&self, place: usize) -> bool
+    pub(crate) fn has(&self, place: usize) -> bool
         ensures { result ≡ is_in self.now.part self.now.parts place }
     {
         place % self.parts + 1 == self.part

@@ -2,9 +2,9 @@
 ghost use Rattle.std.specs.Prelude.{◌≡◌, ◌++◌, decimal, flat_map, IfOk, OnOk};
 ghost use Rattle.ace_batch.specs.GroupViews.{view_of, views_of};
 ghost use Rattle.ace_batch.specs.Rows.{padded};
-ghost use Rattle.ace_batch.specs.Summaries.{beyond_words, count_part, counts_line, events_text, first_text, group_text, groups_text, heading_end, heading_text, hindered_text, outcomes_text, plural, right_of, signature_text, summary_text, told_text, traces_text, unread_text, with_commas, wrong_text};
+ghost use Rattle.ace_batch.specs.Summaries.{beyond_words, count_part, counts_line, events_text, first_text, group_text, groups_text, heading_end, heading_text, hindered_text, open_end, open_text, outcomes_text, plural, findings_text, right_of, signature_text, summary_text, told_text, traces_text, unread_text, with_commas, wrong_text};
 
-use crate::counting::{count_of, events_of};
+use crate::counting::{count_of, events_of, open_count};
 use crate::entry::Entry;
 use crate::grouping::{Group, groups_of};
 use crate::push::{push, push_number, push_spaces};
@@ -233,6 +233,41 @@ fn push_groups(text: &mut Vec<u8>, groups: &[Group<'_>]) -> Result<(), NoMemory>
     push_each(text, groups)
 }
 
+/// What stands behind the number of accepted traces that end with transactions outstanding.
+#[tactic(auto, unfolding(crate::specs::Summaries::open_end))]
+fn open_end(count: usize) -> &'static [u8]
+    ensures { result.now ≡ open_end count }
+{
+    if count == 1 {
+        b" accepted trace ends with transactions outstanding\n"
+    } else {
+        b" accepted traces end with transactions outstanding\n"
+    }
+}
+
+/// Adds how many accepted traces end with transactions outstanding, if there are any.
+#[tactic(auto, unfolding(crate::specs::Summaries::open_text))]
+fn push_open(text: &mut Vec<u8>, count: usize) -> Result<(), NoMemory>
+    ensures { OnOk result (text.new.items ≡ text.old.items ++ open_text count) }
+{
+    if count == 0 {
+        return Ok(());
+    }
+    push(text, b"\n")?;
+    push_number(text, count as u64)?;
+    push(text, open_end(count))
+}
+
+/// Adds the groups of traces that failed alike, and how many end with transactions outstanding.
+#[tactic(auto, unfolding(crate::specs::Summaries::findings_text))]
+fn push_findings(alloc: Global, text: &mut Vec<u8>, entries: &[Entry]) -> Result<(), NoMemory>
+    ensures { OnOk result (text.new.items ≡ text.old.items ++ findings_text entries.now) }
+{
+    let groups = groups_of(alloc, entries)?;
+    push_groups(text, groups.as_slice())?;
+    push_open(text, open_count(entries))
+}
+
 /// Adds the summary of the traces, with an empty line before it.
 ///
 /// # Errors
@@ -244,8 +279,7 @@ pub fn push_summary(alloc: Global, text: &mut Vec<u8>, entries: &[Entry]) -> Res
 {
     push(text, b"\n")?;
     push_counts(text, entries)?;
-    let groups = groups_of(alloc, entries)?;
-    push_groups(text, groups.as_slice())
+    push_findings(alloc, text, entries)
 }
 
 /// What is told of the traces: the line of each, or only of those that aren't accepted, and the summary.

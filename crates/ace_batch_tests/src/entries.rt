@@ -10,6 +10,7 @@ use std::alloc::Global;
 pub struct Told {
     pub outcome: Outcome,
     pub events: u64,
+    pub outstanding: Option<u64>,
     pub line: Option<u64>,
     pub signature: &'static str,
     pub message: &'static str,
@@ -23,6 +24,7 @@ fn refused(index: u64, signature: &'static str, message: &'static str) -> Told
     Told {
         outcome: Outcome::Refused,
         events: index,
+        outstanding: None,
         line: Some(index + 2),
         signature,
         message,
@@ -35,6 +37,7 @@ fn other(outcome: Outcome, signature: &'static str, message: &'static str) -> To
     Told {
         outcome,
         events: 0,
+        outstanding: None,
         line: None,
         signature,
         message,
@@ -47,7 +50,13 @@ fn told_of(path: &str) -> Told {
     match path {
         "good" => Told {
             events: 123456,
+            outstanding: Some(0),
             ..other(Outcome::Accepted, "", "accepted 123456")
+        },
+        "open" => Told {
+            events: 12,
+            outstanding: Some(3),
+            ..other(Outcome::Accepted, "", "accepted 12")
         },
         "early" => refused(7, "K18c", "a transfer too many"),
         "late" => refused(70, "K18c", "a transfer too few"),
@@ -88,6 +97,7 @@ fn entry_of(alloc: Global, path: &str) -> Result<Entry, NoMemory> {
         path,
         outcome: told.outcome,
         events: told.events,
+        outstanding: told.outstanding,
         line: told.line,
         signature,
         message,

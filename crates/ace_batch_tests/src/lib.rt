@@ -7,4 +7,6 @@ mod entries;
 #[cfg(test)]
 mod lists;
 #[cfg(test)]
+mod parts;
+#[cfg(test)]
 mod texts;

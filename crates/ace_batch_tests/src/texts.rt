@@ -7,13 +7,32 @@ use std::alloc::Global;
 /// Paths, whether accepted ones have no lines, and what is told of them.
 type Row = (&'static [&'static str], bool, &'static str);
 
-const TOLD: [Row; 4] = [
+const TOLD: [Row; 6] = [
     (
         &["good"],
         false,
         "ok    good           accepted 123456\n\n1 trace: 1 accepted; 123,456 events\n",
     ),
     (&["good"], true, "\n1 trace: 1 accepted; 123,456 events\n"),
+    (
+        &["open", "good"],
+        true,
+        "\n2 traces: 2 accepted; 123,468 events\n\n1 accepted trace ends with transactions outstanding\n",
+    ),
+    (
+        &["open", "none", "open"],
+        true,
+        "ERROR none           No such file or directory
+
+3 traces: 2 accepted, 1 unreadable; 24 events
+
+1 distinct failure, most frequent first
+    1  cannot be opened             none
+       No such file or directory
+
+2 accepted traces end with transactions outstanding
+",
+    ),
     (
         &["late", "good", "early", "nightly/bad", "none"],
         true,
@@ -106,10 +125,10 @@ const JUNIT: &str = "<?xml version=\"1.0\" encoding=\"UTF-8\"?>
 ";
 
 const JSON: &str = "{\"format\":\"ace batch 1\",\"shard\":\"1/1\",\"traces\":4}
-{\"file\":\"good\",\"verdict\":\"accepted\",\"events\":123456,\"line\":null,\"signature\":\"\",\"message\":\"accepted 123456\",\"text\":\"accepted 123456\"}
-{\"file\":\"load\",\"verdict\":\"refused\",\"events\":9,\"line\":11,\"signature\":\"K31a\",\"message\":\"another word <&> \\\"than\\\" it has\\u0009\",\"text\":\"another word <&> \\\"than\\\" it has\\u0009\"}
-{\"file\":\"nightly/bad\",\"verdict\":\"malformed\",\"events\":0,\"line\":3,\"signature\":\"F5\",\"message\":\"a field is wrong\",\"text\":\"a field is wrong\"}
-{\"file\":\"a/b/\u{fffe}\\n\",\"verdict\":\"unreadable\",\"events\":0,\"line\":null,\"signature\":\"cannot be opened\",\"message\":\"No such file or directory\",\"text\":\"No such file or directory\"}
+{\"file\":\"good\",\"verdict\":\"accepted\",\"events\":123456,\"outstanding\":0,\"line\":null,\"signature\":\"\",\"message\":\"accepted 123456\",\"text\":\"accepted 123456\"}
+{\"file\":\"load\",\"verdict\":\"refused\",\"events\":9,\"outstanding\":null,\"line\":11,\"signature\":\"K31a\",\"message\":\"another word <&> \\\"than\\\" it has\\u0009\",\"text\":\"another word <&> \\\"than\\\" it has\\u0009\"}
+{\"file\":\"nightly/bad\",\"verdict\":\"malformed\",\"events\":0,\"outstanding\":null,\"line\":3,\"signature\":\"F5\",\"message\":\"a field is wrong\",\"text\":\"a field is wrong\"}
+{\"file\":\"a/b/\u{fffe}\\n\",\"verdict\":\"unreadable\",\"events\":0,\"outstanding\":null,\"line\":null,\"signature\":\"cannot be opened\",\"message\":\"No such file or directory\",\"text\":\"No such file or directory\"}
 {\"end\":4}
 ";
 

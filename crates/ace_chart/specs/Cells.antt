@@ -6,7 +6,7 @@ use Rattle.ace_event.specs.Text.{state_text}
 use Rattle.ace_model.specs.declared.transactions.Transaction.{Transaction}
 use Rattle.ace_svg.specs.Elements.{rectangle, title, title_end, title_start, words_element}
 use Rattle.ace_tables.specs.States.{is_invalid, is_unique}
-use Rattle.ace_chart.specs.KindWords.{transaction_words}
+use Rattle.ace_event_words.specs.KindWords.{transaction_words}
 use Rattle.ace_chart.specs.Places.{x_of, y_of}
 use Rattle.ace_chart.specs.declared.places.Lifeline.{Lifeline}
 use Rattle.ace_chart.specs.declared.places.Lifeline.TheVariants.{Port, Interconnect, Memory}

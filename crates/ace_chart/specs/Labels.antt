@@ -6,7 +6,8 @@ use Rattle.ace_event.specs.Text.{outcome_text, state_text}
 use Rattle.ace_event.specs.declared.event.Event.{Event}
 use Rattle.ace_event.specs.declared.event.Event.TheVariants.{Ar, R, Rk, Aw, W, B, Wk, Ac, Cr, Cd, G, M, S, L, D, Op, Mem}
 use Rattle.ace_model.specs.declared.transactions.Transaction.{Transaction}
-use Rattle.ace_chart.specs.KindWords.{read_words, served_words, snoop_words, write_words}
+use Rattle.ace_event_words.specs.SmallWords.{bit_word}
+use Rattle.ace_event_words.specs.KindWords.{read_words, served_words, snoop_words, write_words}
 
 -- what the low bits of a response say, behind a space: nothing where they are OKAY
 abbrev pub low_word : ℕ → List ℕ
@@ -14,10 +15,6 @@ low_word resp =
     if low_bits resp == 0 then []
     else (if low_bits resp == 1 then codes " EXOKAY"
     else (if low_bits resp == 2 then codes " SLVERR" else codes " DECERR"))
-
--- the word, where the bit is 1
-abbrev pub bit_word : Bool → List ℕ → List ℕ
-bit_word bit word = if bit then word else []
 
 -- a record and what it is about; and whether that is exclusive; and the state in which it leaves the line
 unfoldable pub named : List ℕ → List ℕ → List ℕ

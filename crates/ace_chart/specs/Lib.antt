@@ -1,6 +1,5 @@
 pub mod Cells
 pub mod Charts
-pub mod KindWords
 pub mod Labels
 pub mod Legend
 pub mod Lifelines

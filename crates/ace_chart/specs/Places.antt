@@ -1,5 +1,5 @@
 -- Where things are drawn: units to the right of the left edge, and below the upper one.
-use Rattle.std.specs.Prelude.{ℕ, ◌+◌, ◌-◌, ◌*◌, ◌/◌, nat_lt, if◌then◌else◌}
+use Rattle.std.specs.Prelude.{ℕ, ◌+◌, ◌-◌, ◌*◌, ◌/◌, max, nat_lt, if◌then◌else◌}
 use Rattle.ace_chart.specs.declared.places.Lifeline.{Lifeline}
 use Rattle.ace_chart.specs.declared.places.Lifeline.TheVariants.{Port, Interconnect, Memory}
 
@@ -34,9 +34,9 @@ far_x x middle = if nat_lt x middle then middle - 13 else middle + 13
 abbrev pub lane_x : ℕ → ℕ → ℕ
 lane_x x middle = if nat_lt x middle then x + 100 else x - 100
 
--- how wide and how high the picture is
+-- how wide the picture is, with room for what is told below it where there are few ports, and how high
 abbrev pub width : ℕ → ℕ
-width ports = x_of ports Memory + 120
+width ports = max 880 (x_of ports Memory + 120)
 
 abbrev pub height : ℕ → ℕ
 height rows = y_of rows + 150

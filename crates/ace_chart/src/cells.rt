@@ -3,10 +3,10 @@
 ghost use Rattle.std.specs.Prelude.{◌≡◌, ◌≤◌, ◌++◌, ◌+◌, OnOk, codes, length};
 ghost use Rattle.ace_chart.specs.Cells.{bar, behind_cell, grant_cell, grant_title, granted_to, half_width, has_the_line, last_cells, look_cells, memory_class, memory_words, rows_cells, state_cell, state_cells, state_title};
 
-use crate::kind_words::transaction_words;
 use crate::places::{Lifeline, x_of, y_of};
 use crate::rows::{Look, Row};
 use ace_codes::LineState;
+use ace_event_words::transaction_words;
 use ace_io::NoMemory;
 use ace_model::Transaction;
 use ace_svg::{

@@ -1,31 +1,21 @@
 // The labels of events: the record of each, and what tells it from others.
 ghost use Rattle.std.specs.Prelude.{◌≡◌, ◌++◌, IfOk, OnOk, codes, decimal};
 ghost use Rattle.ace_event.specs.Text.{outcome_text, state_text};
+ghost use Rattle.ace_event_words.specs.SmallWords.{bit_word};
 ghost use Rattle.ace_words.specs.Kinds.{port_words};
-ghost use Rattle.ace_chart.specs.KindWords.{read_words, served_words, snoop_words, write_words};
-ghost use Rattle.ace_chart.specs.Labels.{answer_words, bit_word, label, low_word, named, of_port, resp_words, with_lock, with_state};
+ghost use Rattle.ace_event_words.specs.KindWords.{read_words, served_words, snoop_words, write_words};
+ghost use Rattle.ace_chart.specs.Labels.{answer_words, label, low_word, named, of_port, resp_words, with_lock, with_state};
 
-use crate::kind_words::{read_words, served_words, snoop_words, write_words};
 use ace_codes::{
     LineState, has_error, is_shared, low_bits, passes_dirty, transfers_data, was_unique,
 };
-use ace_event::{Event, Outcome};
+use ace_event::Event;
+use ace_event_words::{bit_word, outcome_word, read_words, served_words, snoop_words, write_words};
 use ace_io::NoMemory;
 use ace_model::Transaction;
 use ace_svg::{push, push_number};
 use ace_words::state_word;
 use std::alloc::Global;
-
-/// How an operation retired.
-fn outcome_word(outcome: Outcome) -> &'static [u8]
-    ensures { result.now ≡ outcome_text outcome }
-{
-    match outcome {
-        Outcome::Ok => b"ok",
-        Outcome::Skip => b"skip",
-        Outcome::Fail => b"fail",
-    }
-}
 
 /// What the low bits of a response say, behind a space; nothing where they are OKAY.
 fn low_word(resp: u8) -> &'static [u8]
@@ -37,13 +27,6 @@ fn low_word(resp: u8) -> &'static [u8]
         2 => b" SLVERR",
         _ => b" DECERR",
     }
-}
-
-/// The word, where the bit is 1.
-fn bit_word(bit: bool, word: &'static [u8]) -> &'static [u8]
-    ensures { result.now ≡ bit_word bit word.now }
-{
-    if bit { word } else { b"" }
 }
 
 /// Adds a record and what it is about.

@@ -4,7 +4,6 @@
 mod cells;
 mod chart;
 mod frame;
-mod kind_words;
 mod labels;
 pub mod laws;
 mod legend;

@@ -74,11 +74,11 @@ pub(crate) fn lane_x(x: u64, middle: u64) -> u64
     if x < middle { x + 100 } else { x - 100 }
 }
 
-/// How wide the picture is.
+/// How wide the picture is, with room for what is told below it where there are few ports.
 pub(crate) fn width(ports: u8) -> u64
     ensures { result ≡ width ports }
 {
-    x_of(ports, Lifeline::Memory) + 120
+    (x_of(ports, Lifeline::Memory) + 120).max(880)
 }
 
 /// How high it is.

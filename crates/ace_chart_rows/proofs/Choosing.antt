@@ -6,7 +6,7 @@ use Rattle.ace_check.specs.declared.checker.Checker.{Checker}
 use Rattle.ace_chart_rows.proofs.Following.{front_of, newest}
 use Rattle.ace_chart_rows.specs.Fed.{HasFed}
 use Rattle.ace_model.specs.Trace.{newer}
-use Rattle.ace_chart_rows.specs.Belongs.{event_line}
+use Rattle.ace_belongs.specs.Belongs.{event_line}
 use Rattle.ace_chart_rows.specs.Choice.{IsChosen, first_line}
 use Rattle.ace_event.specs.declared.event.Event.{Event}
 use Rattle.ace_event.specs.declared.header.Header.{Header}

@@ -2,7 +2,7 @@
 use Rattle.std.proofs.Common.{◌≡◌, ◌<◌, ◌≤◌, ℕ, suc, ◌+◌, ◌-◌, ◌^◌, ◌++◌, Bool, true, false, List, [], ◌∷◌, Option, Some, None, Result, Ok, Err, IfOk, if◌then◌else◌, length, reverse, take, drop, get_or, refl, ap, sym, subst, ◌∙◌, arith}
 use Rattle.std.proofs.lemmas.List.{drop_more, length-reverse, length-take-le, reverse-append, reverse-reverse, take-append-drop, take_more}
 use Rattle.ace_chart.specs.declared.rows.Row.{Row}
-use Rattle.ace_chart_rows.specs.Belongs.{event_line}
+use Rattle.ace_belongs.specs.Belongs.{event_line}
 use Rattle.ace_chart.specs.declared.rows.Chart.{Chart}
 use Rattle.ace_chart_rows.specs.Charts.{HasFollowed, HasHeard, IsChartOf, row_at_end, rule_at_end}
 use Rattle.ace_chart_rows.specs.Looks.{look_on}

@@ -5,7 +5,7 @@ use Rattle.std.proofs.lemmas.Bool.{cases_Bool}
 use Rattle.std.proofs.lemmas.List.{length-append, length-reverse}
 use Rattle.ace_chart.specs.Marks.{IsNumbered, IsStopNumbered}
 use Rattle.ace_chart.specs.declared.rows.Row.{Row}
-use Rattle.ace_chart_rows.specs.Belongs.{event_line}
+use Rattle.ace_belongs.specs.Belongs.{event_line}
 use Rattle.ace_chart_rows.specs.Charts.{EndsSo, HasFollowed, row_at_end}
 use Rattle.ace_chart_rows.specs.declared.collect.Stop.{Stop}
 use Rattle.ace_check.specs.declared.checker.Checker.{Checker}

@@ -1,6 +1,6 @@
 -- The line that a chart is of where none is asked for.
 use Rattle.std.specs.Prelude.{◌≡◌, ℕ, ◌++◌, List, [], ◌∷◌, Option, Some, None, reverse}
-use Rattle.ace_chart_rows.specs.Belongs.{event_line}
+use Rattle.ace_belongs.specs.Belongs.{event_line}
 use Rattle.ace_event.specs.declared.event.Event.{Event}
 use Rattle.ace_event.specs.declared.header.Header.{Header}
 use Rattle.ace_model.specs.Accepted.{IsAccepted, least_broken}

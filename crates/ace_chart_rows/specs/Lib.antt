@@ -1,4 +1,3 @@
-pub mod Belongs
 pub mod Charts
 pub mod Choice
 pub mod Fed

@@ -1,7 +1,7 @@
 -- The rows of a chart: the events of a line in order, each with what there is of the line before it.
 use Rattle.std.specs.Prelude.{ℕ, ◌+◌, ◌==◌, Bool, true, false, if◌then◌else◌, List, [], ◌∷◌, Option, Some, None, length}
 use Rattle.ace_chart.specs.declared.rows.Row.{Row}
-use Rattle.ace_chart_rows.specs.Belongs.{event_line, serves_in}
+use Rattle.ace_belongs.specs.Belongs.{event_line, serves_in}
 use Rattle.ace_chart_rows.specs.Looks.{look_on}
 use Rattle.ace_event.specs.declared.event.Event.{Event}
 use Rattle.ace_event.specs.declared.header.Header.{Header}

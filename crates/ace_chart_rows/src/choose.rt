@@ -5,7 +5,8 @@ ghost use Rattle.ace_check.specs.Run.{StandsWithin};
 ghost use Rattle.ace_event.specs.Ports.{IsHeader};
 ghost use Rattle.ace_model.specs.Trace.{newer};
 
-use crate::told::{feed, next_line};
+use crate::told::feed;
+use ace_belongs::next_line;
 use ace_check::Checker;
 use ace_event::{Event, Header};
 use ace_io::NoMemory;

@@ -9,7 +9,8 @@ ghost use Rattle.ace_event.specs.declared.header.Header.{Header as Head};
 ghost use Rattle.ace_model.specs.Trace.{Trace};
 ghost use Rattle.ace_model.specs.declared.breaks.Break.{Break};
 
-use crate::told::{feed, look_now, next_line, next_number, next_serves};
+use crate::told::{feed, look_now};
+use ace_belongs::{next_line, next_number, next_serves};
 use ace_chart::{Chart, Row};
 use ace_check::Checker;
 use ace_event::{Event, Header};

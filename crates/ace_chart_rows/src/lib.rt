@@ -2,7 +2,6 @@
 //! by what the checker keeps of the trace.
 #![tactic(auto)]
 
-mod belongs;
 mod choose;
 mod collect;
 mod looks;

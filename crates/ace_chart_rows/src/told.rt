@@ -1,6 +1,5 @@
 // What a checker tells of the trace that it stands for.
-ghost use Rattle.std.specs.Prelude.{◌≡◌, ◌+◌, ◌<◌, ◌-◌, ◌^◌, ℕ, Option, None, IfOk, length};
-ghost use Rattle.ace_chart_rows.specs.Belongs.{event_line, serves_in};
+ghost use Rattle.std.specs.Prelude.{◌≡◌, ◌<◌, ◌-◌, ◌^◌, ℕ, Option, None, IfOk, length};
 ghost use Rattle.ace_chart_rows.specs.Fed.{HasFed, rule_of};
 ghost use Rattle.ace_chart_rows.specs.Looks.{look_on};
 ghost use Rattle.ace_check.specs.Run.{StandsWithin};
@@ -8,37 +7,11 @@ ghost use Rattle.ace_event.specs.declared.header.Header.{Header};
 ghost use Rattle.ace_model.specs.Trace.{Trace};
 ghost use Rattle.ace_model.specs.declared.breaks.Break.{Break};
 
-use crate::belongs::{event_line, serves};
 use crate::looks::look_on;
 use ace_chart::Look;
 use ace_check::{Checker, Step};
 use ace_event::Event;
 use ace_io::NoMemory;
-use ace_model::Transaction;
-
-/// The number of the next event, from 1.
-pub(crate) fn next_number(checker: &Checker) -> u64
-    ensures { (most : ℕ) (h : Header) (past : Trace) (b : Option Break)
-        → StandsWithin most checker.now h past b → result ≡ length past + 1 }
-{
-    checker.count().wrapping_add(1)
-}
-
-/// The transaction that the next event begins or belongs to, if there is one.
-pub(crate) fn next_serves(checker: &Checker, event: &Event) -> Option<Transaction>
-    ensures { (most : ℕ) (h : Header) (past : Trace) (b : Option Break)
-        → StandsWithin most checker.now h past b → result ≡ serves_in h past event.now }
-{
-    serves(checker.ports(), event)
-}
-
-/// The line that the next event names, or that what it belongs to names.
-pub(crate) fn next_line(checker: &Checker, event: &Event) -> Option<u32>
-    ensures { (most : ℕ) (h : Header) (past : Trace) (b : Option Break)
-        → StandsWithin most checker.now h past b → result ≡ event_line h past event.now }
-{
-    event_line(checker.ports(), event)
-}
 
 /// What there is of the line that is asked for.
 pub(crate) fn look_now(checker: &Checker, line: Option<u32>) -> Look

@@ -116,9 +116,9 @@ fn has(alloc: Global, events: &[Event], line: Option<u32>, parts: &[&[u8]]) -> R
 #[test]
 fn writes_svg(rt: HostRuntime) -> Result<(), Fail> {
     let refused: [&[u8]; 6] = [
-        b"<svg xmlns=\"http://www.w3.org/2000/svg\" viewBox=\"0 0 870 376\" width=\"870\" height=\"376\">\n<style>\n",
+        b"<svg xmlns=\"http://www.w3.org/2000/svg\" viewBox=\"0 0 880 376\" width=\"880\" height=\"376\">\n<style>\n",
         b">a&amp;b.trace</text>\n",
-        b"<rect class=\"band\" x=\"8\" y=\"184\" width=\"854\" height=\"30\"/>\n",
+        b"<rect class=\"band\" x=\"8\" y=\"184\" width=\"864\" height=\"30\"/>\n",
         b"<line class=\"address\" x1=\"538\" y1=\"154\" x2=\"363\" y2=\"154\"/>\n",
         b"<title>granted to ReadUnique of port 0</title>\n",
         b"<title>event 4, line 6 of the trace</title>\n<text class=\"number\" x=\"96\" y=\"206\">4</text>\n\

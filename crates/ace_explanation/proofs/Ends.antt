@@ -1,8 +1,8 @@
 -- One event more, and the end.
-use Rattle.std.proofs.Common.{◌≡◌, ◌<◌, ◌≤◌, ◌+◌, ◌-◌, ◌^◌, ◌++◌, ℕ, List, [], ◌∷◌, Option, Some, None, Err, IfSome, length, reverse, refl, sym, ap, subst, ◌∙◌, arith, inr}
+use Rattle.std.proofs.Common.{◌≡◌, ◌<◌, ◌≤◌, ◌+◌, ◌-◌, ◌^◌, ◌++◌, ℕ, List, [], ◌∷◌, Option, Some, None, Err, IfSome, length, reverse, refl, sym, ap, append-nil, subst, ◌∙◌, arith, inr}
 use Rattle.std.specs.Io.KnownBytes.{Consumes, IsAtEnd}
 use Rattle.std.proofs.KnownBytes.{Consumes-trans}
-use Rattle.std.proofs.lemmas.List.{length-reverse, reverse-append}
+use Rattle.std.proofs.lemmas.List.{length-reverse, reverse-append, reverse-reverse}
 use Rattle.ace_event.specs.Ports.{IsHeader}
 use Rattle.ace_event.specs.Text.{trace_text, event_text, line_text}
 use Rattle.ace_event.specs.declared.event.Event.{Event}
@@ -11,7 +11,7 @@ use Rattle.ace_explanation.specs.Explanations.{HasAnyLine, IsExplanationWithin, 
 use Rattle.ace_explanation.specs.Following.{BreaksAt, HasCome, HasFollowed, HasHeard}
 use Rattle.ace_explanation.specs.declared.explanation.Explanation.{Explanation}
 use Rattle.ace_explanation.specs.declared.listener.Listener.{Listener}
-use Rattle.ace_explanation.specs.declared.explanation.Explanation.TheVariants.{Refused, Malformed, Other}
+use Rattle.ace_explanation.specs.declared.explanation.Explanation.TheVariants.{Refused, Malformed, Accepted, Other}
 use Rattle.ace_grammar.proofs.Readings.OneMore.{trace_text-more}
 use Rattle.ace_grammar.proofs.Readings.Taken.{reads_to, at_end}
 use Rattle.ace_grammar.specs.Errors.{HasFaultCause, HasNoHeader, StandsNextWithin}
@@ -21,6 +21,7 @@ use Rattle.ace_grammar.specs.declared.error.ReadErr.{ReadErr}
 use Rattle.ace_grammar.specs.declared.error.ReadErr.TheVariants as error
 use Rattle.ace_malformed.specs.Cut.{IsFirstCut, IsLineOf, ShowsCut, ShowsLine}
 use Rattle.ace_model.specs.Trace.{Trace}
+use Rattle.ace_outstanding.specs.Outstanding.{outstanding_count}
 use Rattle.ace_verdict.proofs.ErrorLemmas.{error_cause, no_header_cause, no_header_verdict, stop_cause}
 use Rattle.ace_verdict.proofs.Followed.{accepted_cause}
 use Rattle.ace_verdict.proofs.ProgressLemmas.{error_verdict, stands_further, stop_verdict}
@@ -75,7 +76,8 @@ breaks_at : (limits : Limits) (bytes : List ℕ) (h : Header) (past : Trace) (ev
     → StandsAt limits.lines (Some bytes) h past left → ShowsPlace bytes x
 breaks_at limits bytes h past event left left' (Other v) taken stops other s = other
 breaks_at limits bytes h past event left left' (Malformed b) taken stops breaks s = absurd breaks
-breaks_at limits bytes h past event left left' (Refused r) taken stops (same_header, same_event, clause) s =
+breaks_at limits bytes h past event left left' (Accepted events outstanding) taken stops breaks s = absurd breaks
+breaks_at limits bytes h past event left left' (Refused r) taken stops (same_header, same_event, clause, expected, before, led) s =
     let text : trace_text h (reverse (event ∷ past)) ≡ trace_text h (reverse past) ++ line_text (event_text h.version event) =
     ap (trace_text h) (reverse-append (event ∷ []) past) ∙ trace_text-more h (reverse past) event in
     rw (same_header, same_event) record {
@@ -84,6 +86,9 @@ breaks_at limits bytes h past event left left' (Refused r) taken stops (same_hea
       index = stops.0;
       rule = stops.1;
       clause = clause;
+      expected = expected;
+      before = before;
+      led = led;
     }
 
 -- what is said of it is right
@@ -102,7 +107,8 @@ pub stop_line : (lines events : ℕ) (h : Header) (past : Trace) (event : Event)
     → IsHeader h → IsReadable h.version event → StopsAt lines h past event (verdict_of x) → BreaksAt h past event x → HasAnyLine x
 stop_line lines events h past event (Other v) counted room header readable stops other = tt
 stop_line lines events h past event (Malformed b) counted room header readable stops breaks = tt
-stop_line lines events h past event (Refused r) counted room header readable stops (same_header, same_event, clause) = record {
+stop_line lines events h past event (Accepted n outstanding) counted room header readable stops breaks = tt
+stop_line lines events h past event (Refused r) counted room header readable stops (same_header, same_event, clause, expected, before, led) = record {
   header = rw same_header header;
   event = rw (same_header, same_event) readable;
   few = omega (arith, counted, room, stops.0);
@@ -128,13 +134,18 @@ round_line limits c c' event count h start left stop x counted some room readabl
 
 -- the bytes are a whole trace
 pub whole : (limits : Limits) (told : Option (List ℕ)) (h : Header) (past : Trace) (left : Option (List ℕ)) (events : ℕ) → length past ≤ limits.events → IsAtEnd left
-    → events ≡ length past → StandsAt limits.lines told h past left → IfSome told (λ bytes. IsExplanationWithin limits bytes (Other (verdict.Accepted events)))
+    → events ≡ length past → StandsAt limits.lines told h past left
+    → IfSome told (λ bytes. IsExplanationWithin limits bytes (Accepted events (outstanding_count h past)))
 whole limits None h past left events few end same s = tt
 whole limits (Some bytes) h past left events few end same s =
     let reads : ReadsWithin limits.events bytes h (reverse past) Whole =
     reads_to bytes h (reverse past) left Whole (λ rest. rest ≡ []) s.header_is_readable s.events_are_readable s.text (at_end left end)
     (λ rest none. ((rw length-reverse few), none)) in
-    ((h, reverse past, reads, no_stop limits.lines h past s.fine, length-reverse past ∙ sym same), tt)
+    let (rest, text, ends) = reads.text in
+    let whole : bytes ≡ trace_text h (reverse past) = text ∙ ap (λ r. trace_text h (reverse past) ++ r) ends.1 ∙ append-nil _ in (
+      (h, reverse past, reads, no_stop limits.lines h past s.fine, length-reverse past ∙ sym same),
+      (h, reverse past, s.header_is_readable, s.events_are_readable, whole, ap (outstanding_count h) (sym (reverse-reverse past))),
+    )
 
 -- the line that stands behind the events so far
 line_behind : (lines : ℕ) (bytes : List ℕ) (h : Header) (past : Trace) (number : ℕ) (line : List ℕ) (left : Option (List ℕ)) → number ≡ length past + 3

@@ -4,9 +4,9 @@ use Rattle.std.specs.Io.KnownBytes.{Appends}
 use Rattle.ace_convert.specs.Output.{AppendsPart}
 use Rattle.ace_explanation.specs.Explanations.{verdict_of}
 use Rattle.ace_explanation.specs.Refusals.{refusal_text}
-use Rattle.ace_explanation.specs.Texts.{verdict_line}
+use Rattle.ace_explanation.specs.Texts.{accepted_text, verdict_line}
 use Rattle.ace_explanation.specs.Told.{HasTold, HasToldPart}
-use Rattle.ace_explanation.specs.declared.explanation.Explanation.TheVariants.{Refused, Malformed, Other}
+use Rattle.ace_explanation.specs.declared.explanation.Explanation.TheVariants.{Refused, Malformed, Accepted, Other}
 use Rattle.ace_explanation.specs.declared.refusal.Refusal.{Refusal}
 use Rattle.ace_malformed.specs.Texts.{bad_line_text}
 use Rattle.ace_malformed.specs.declared.bad_line.BadLine.{BadLine}
@@ -30,6 +30,15 @@ verdict_told name short out out' v given = (Other v, refl, refl, given)
 pub verdict_part : (name : List ℕ) (short : Bool) (out out' : Option (List ℕ)) (v : Verdict) → AppendsPart out out' (verdict_line name v)
     → HasToldPart name short (Other v) out out'
 verdict_part name short out out' v given = (Other v, refl, given)
+
+-- that of an accepted trace was
+pub accepted_told : (name : List ℕ) (short : Bool) (events outstanding : ℕ) (out out' : Option (List ℕ)) (v : Verdict) → v ≡ verdict.Accepted events
+    → Appends out out' (accepted_text name short events outstanding) → HasTold name short (Accepted events outstanding) out out' v
+accepted_told name short events outstanding out out' v is given = (Accepted events outstanding, refl, is, given)
+
+pub accepted_part : (name : List ℕ) (short : Bool) (events outstanding : ℕ) (out out' : Option (List ℕ))
+    → AppendsPart out out' (accepted_text name short events outstanding) → HasToldPart name short (Accepted events outstanding) out out'
+accepted_part name short events outstanding out out' given = (Accepted events outstanding, refl, given)
 
 -- that of the malformed line was
 pub malformed_told : (name : List ℕ) (short : Bool) (b : BadLine) (out out' : Option (List ℕ)) (v : Verdict) → v ≡ verdict_of (Malformed b)
@@ -65,6 +74,8 @@ pub ruleset telling = (
   malformed_part,
   verdict_told,
   verdict_part,
+  accepted_told,
+  accepted_part,
   no_memory_told,
   no_memory_part,
   no_memory_told_of_line,

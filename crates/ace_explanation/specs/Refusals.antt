@@ -1,10 +1,17 @@
 -- What is told of an event that breaks a rule.
-use Rattle.std.specs.Prelude.{ℕ, ◌+◌, ◌++◌, ◌<◌, ◌^◌, Bool, if◌then◌else◌, List, [], Some, None, codes, decimal}
+use Rattle.std.specs.Prelude.{ℕ, ◌+◌, ◌++◌, ◌<◌, ◌^◌, Bool, if◌then◌else◌, List, [], Option, Some, None, codes, decimal}
+use Rattle.ace_before.specs.Texts as before
+use Rattle.ace_before.specs.declared.before.LineBefore.{LineBefore}
 use Rattle.ace_clauses.specs.declared.letters.Letter.{Letter}
 use Rattle.ace_event.specs.Ports.{IsHeader}
 use Rattle.ace_event.specs.Range.{InRange}
 use Rattle.ace_event.specs.Text.{event_text, line_text}
+use Rattle.ace_event.specs.declared.header.Header.{Header}
+use Rattle.ace_expected.specs.Texts.{lines_text}
+use Rattle.ace_expected.specs.declared.wanted.Expectation.{Expectation}
 use Rattle.ace_explanation.specs.declared.refusal.Refusal.{Refusal}
+use Rattle.ace_journal.specs.LedTexts.{led_text}
+use Rattle.ace_pages.specs.Advice.{advice}
 use Rattle.ace_pages.specs.Pages.{page_name}
 use Rattle.ace_words.specs.Breaks.{wrong_with}
 use Rattle.ace_words.specs.Rules.{kept_where, rule_title}
@@ -49,13 +56,28 @@ rule_line r =
     codes "  " ++ page_name r.rule (Some r.letter) ++ codes "  " ++ title r.rule
     ++ kept_part r.rule r.letter ++ codes "\n"
 
--- the event as it stands in the trace, and what the rule asks, each with an empty line before it
+-- what the clause expects, and what it got, if it expects a value
+unfoldable pub expected_part : Option Expectation → List ℕ
+expected_part None = []
+expected_part (Some x) = lines_text x
+
+-- what there is of the line of the event before it, if it is about a line
+unfoldable pub before_part : ℕ → Header → Option LineBefore → List ℕ
+before_part index h None = []
+before_part index h (Some b) = codes "\n" ++ before.line_text index h b
+
+-- the event as it stands in the trace; what the rule asks, expects and got; and what there is of the
+-- line before the event: each with an empty line before it
 unfoldable pub evidence : Refusal → List ℕ
 evidence r =
     codes "\n  " ++ line_text (event_text r.header.version r.event) ++ codes "\n"
-    ++ rule_line r
+    ++ rule_line r ++ expected_part r.expected ++ before_part r.index r.header r.before
+
+-- what is told behind the first line: these, what led to the event, and where to look first
+unfoldable pub rest_of : Refusal → List ℕ
+rest_of r = evidence r ++ led_text r.led ++ advice r.rule
 
 -- what is told of the event in the trace of this name: the first line alone where that was asked
 -- for
 unfoldable pub refusal_text : List ℕ → Bool → Refusal → List ℕ
-refusal_text name short r = refusal_line name r ++ (if short then [] else evidence r)
+refusal_text name short r = refusal_line name r ++ (if short then [] else rest_of r)

@@ -1,10 +1,11 @@
 -- What is told of a trace.
-use Rattle.std.specs.Prelude.{ℕ, ◌++◌, Bool, List, codes, decimal}
+use Rattle.std.specs.Prelude.{ℕ, ◌++◌, Bool, if◌then◌else◌, List, [], codes, decimal}
 use Rattle.ace_explanation.specs.Refusals.{refusal_text}
 use Rattle.ace_explanation.specs.declared.explanation.Explanation.{Explanation}
-use Rattle.ace_explanation.specs.declared.explanation.Explanation.TheVariants.{Refused, Malformed, Other}
+use Rattle.ace_explanation.specs.declared.explanation.Explanation.TheVariants.{Refused, Malformed, Accepted, Other}
 use Rattle.ace_grammar.specs.Reasons.{number_of_reason}
 use Rattle.ace_malformed.specs.Texts.{bad_line_text}
+use Rattle.ace_outstanding.specs.Words.{outstanding_note}
 use Rattle.ace_verdict.specs.declared.verdict.Verdict.{Verdict}
 use Rattle.ace_verdict.specs.declared.verdict.Verdict.TheVariants as verdict
 
@@ -24,8 +25,16 @@ verdict_text verdict.NoMemory = codes "out of memory"
 abbrev pub verdict_line : List ℕ → Verdict → List ℕ
 verdict_line name v = name ++ (codes ": " ++ (verdict_text v ++ codes "\n"))
 
+-- that it is accepted, and a note where transactions are outstanding at its end, unless the first
+-- line alone was asked for
+abbrev pub accepted_text : List ℕ → Bool → ℕ → ℕ → List ℕ
+accepted_text name short events outstanding =
+    verdict_line name (verdict.Accepted events) ++ (if short then [] else outstanding_note outstanding)
+
 -- what is told of the trace of this name: the first line alone where that was asked for
 abbrev pub explanation_text : List ℕ → Bool → Explanation → List ℕ
 explanation_text name short (Refused r) = refusal_text name short r
 explanation_text name short (Malformed b) = bad_line_text name short b
+explanation_text name short (Accepted events outstanding) =
+    accepted_text name short events outstanding
 explanation_text name short (Other v) = verdict_line name v

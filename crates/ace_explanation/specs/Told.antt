@@ -5,13 +5,14 @@ use Rattle.ace_convert.specs.Output.{AppendsPart}
 use Rattle.ace_explanation.specs.Explanations.{verdict_of}
 use Rattle.ace_explanation.specs.Texts.{explanation_text}
 use Rattle.ace_explanation.specs.declared.explanation.Explanation.{Explanation}
-use Rattle.ace_explanation.specs.declared.explanation.Explanation.TheVariants.{Other}
+use Rattle.ace_explanation.specs.declared.explanation.Explanation.TheVariants.{Accepted, Other}
 use Rattle.ace_verdict.specs.declared.verdict.Verdict.{Verdict}
 use Rattle.ace_verdict.specs.declared.verdict.Verdict.TheVariants as verdict
 
 -- What is told is the explanation itself; where that is more than a verdict, it may be that there
 -- was no memory for the text.
 abbrev pub IsToldAs : Explanation → Explanation → Type 0
+IsToldAs (Accepted events outstanding) told = told ≡ Accepted events outstanding
 IsToldAs (Other v) told = told ≡ Other v
 IsToldAs x told = (told ≡ x) ⊎ (told ≡ Other verdict.NoMemory)
 

@@ -1,16 +1,22 @@
 // Follows a trace event by event to its explanation.
-ghost use Rattle.std.specs.Prelude.{◌≡◌, ◌<◌, ◌≤◌, ◌-◌, ◌^◌, ℕ, List, [], Option, Some, None, length, IfSome};
+ghost use Rattle.std.specs.Prelude.{◌≡◌, true, false, ◌<◌, ◌≤◌, ◌-◌, ◌^◌, ℕ, List, [], Option, Some, None, length, IfSome, ◌∷◌};
+ghost use Rattle.ace_belongs.specs.Belongs.{event_line};
 ghost use Rattle.ace_check.specs.Run.{StandsWithin};
 ghost use Rattle.ace_event.specs.Ports.{IsHeader};
+ghost use Rattle.ace_event.specs.declared.header.Header.{Header, Header as Head};
 ghost use Rattle.ace_explain.specs.LastLoads.{LoadsStand};
 ghost use Rattle.ace_explanation.specs.Explanations.{HasAnyLine, IsExplanationWithin, ShowsPlace, verdict_of};
-ghost use Rattle.ace_explanation.specs.Following.{BreaksAt, HasFollowed, HasHeard};
+ghost use Rattle.ace_explanation.specs.declared.explanation.Explanation.TheVariants.{Accepted, Other};
+ghost use Rattle.ace_explanation.specs.Following.{BreaksAt, HasFollowed, HasHeard, told_unless};
 ghost use Rattle.ace_grammar.specs.Reading.{most_counted};
 ghost use Rattle.ace_io.specs.Reader.{source_of, waiting};
+ghost use Rattle.ace_journal.specs.Journals.{JournalStands};
+ghost use Rattle.ace_journal.specs.Rows.{row_of};
 ghost use Rattle.ace_malformed.specs.Cut.{IsLineOf, ShowsLine};
 ghost use Rattle.ace_model.specs.Accepted.{least_broken};
 ghost use Rattle.ace_model.specs.Trace.{Trace};
 ghost use Rattle.ace_model.specs.declared.breaks.Break.{Break};
+ghost use Rattle.ace_outstanding.specs.Outstanding.{outstanding_count};
 ghost use Rattle.ace_verdict.specs.Errors.{refusal_of};
 ghost use Rattle.ace_verdict.specs.Progress.{HasReadCause, IsStop, StandsAt};
 ghost use Rattle.ace_verdict.specs.declared.limits.Limits.{Limits as Bounds};
@@ -19,56 +25,122 @@ ghost use Rattle.ace_verdict.specs.declared.verdict.Verdict.TheVariants as verdi
 
 use crate::explanation::Explanation;
 use crate::listener::Listener;
+use crate::next::next_row;
 use crate::refusal::Refusal;
+use ace_before::before_event;
+use ace_belongs::next_line;
 use ace_check::{CheckErr, Checker, Step};
 use ace_event::{Event, Header};
+use ace_expected::expectation;
 use ace_explain::{LastLoads, clause};
 use ace_grammar::{ReadErr, Reason};
 use ace_io::{LineBuf, LineReader, NoMemory, Source};
+use ace_journal::{Journal, Row};
 use ace_malformed::{BadLine, LineText, next_event, read_header};
+use ace_outstanding::count_outstanding;
 use ace_verdict::{Limits, Verdict};
 use std::alloc::Global;
 
-/// The event breaks a rule.
-fn refused(listener: &Listener, header: Header, event: &Event, index: u64, rule: u8) -> Explanation
-    ensures verdict { verdict_of result ≡ Refused index rule }
+/// The event breaks a rule: `told` is what there is to say. It stands apart from `hear`, so that
+/// this needs no room for it.
+#[inline(never)]
+fn refuse(
+    listener: &Listener,
+    header: Header,
+    event: &Event,
+    index: u64,
+    rule: u8,
+    line: Option<u32>,
+    row: Row,
+    told: &mut Explanation,
+)
+    ensures verdict { verdict_of told.new ≡ Refused index rule }
     ensures breaks { (lines : ℕ) (past : Trace) (b : Option Break)
         → StandsWithin lines listener.now.checker header past b
-        → LoadsStand past listener.now.loads
+        → LoadsStand past listener.now.loads → JournalStands header past listener.now.journal
+        → line ≡ event_line header past event.now → row ≡ row_of header past event.now
         → least_broken header past event.now ≡ Some rule
-        → BreaksAt header past event.now result }
+        → BreaksAt header past event.now told.new }
 {
-    Explanation::Refused {
+    let shares = listener.checker.shares();
+    let ports = shares.ports();
+    let lines = shares.lines();
+    let found = clause(shares, &listener.loads, event, rule);
+    *told = Explanation::Refused {
         refusal: Refusal {
             header,
             event: *event,
             index,
             rule,
-            letter: clause(listener.checker.shares(), &listener.loads, event, rule),
+            letter: found,
+            expected: expectation(ports, lines, shares.system(), event, rule, found),
+            before: before_event(ports, lines, event),
+            led: listener.journal.led(line, row),
         },
+    };
+}
+
+/// The verdict, which says all, is what there is to say.
+#[inline(never)]
+fn stop(verdict: Verdict, told: &mut Explanation)
+    ensures { told.new ≡ Other verdict }
+{
+    *told = Explanation::Other { verdict };
+}
+
+/// Keeps the next event, which breaks no rule and has this row, and says whether the check goes on.
+/// Where there is no memory for the event, `told` says that.
+fn keep(
+    listener: &mut Listener,
+    event: &Event,
+    line: Option<u32>,
+    row: Row,
+    told: &mut Explanation,
+) -> bool
+    ensures checker { listener.new.checker ≡ listener.old.checker }
+    ensures loads { (past : Trace) → LoadsStand past listener.old.loads
+        → LoadsStand (event.now ∷ past) listener.new.loads }
+    ensures journal { result ≡ true → (h : Head) (past : Trace)
+        → JournalStands h past listener.old.journal
+        → line ≡ event_line h past event.now → row ≡ row_of h past event.now
+        → JournalStands h (event.now ∷ past) listener.new.journal }
+    ensures none { result ≡ false → told.new ≡ Other verdict.NoMemory }
+{
+    listener.loads.hear(event);
+    match listener.journal.hear(line, event, row) {
+        Ok(()) => true,
+        Err(NoMemory) => {
+            stop(Verdict::NoMemory, told);
+            false
+        }
     }
 }
 
-/// Hears the next event of a trace with this header. What there is to say where it ends the check.
+/// Hears the next event of a trace with this header, and says whether the check goes on. Where the
+/// event ends it, `told` is what there is to say.
 #[tactic(auto, using(crate::proofs::Hearing::hearing))]
-fn hear(listener: &mut Listener, header: Header, event: &Event) -> Option<Explanation>
+fn hear(listener: &mut Listener, header: Header, event: &Event, told: &mut Explanation) -> bool
     ensures heard { (lines : ℕ) (past : Trace) → HasFollowed lines listener.old header past
         → length past < 2 ^ 64 - 2
-        → HasHeard lines listener.new header past event.now result }
-    ensures stop { IfSome result (λ x. IsStop (verdict_of x)) }
+        → HasHeard lines listener.new header past event.now (told_unless result told.new) }
+    ensures stop { result ≡ false → IsStop (verdict_of told.new) }
 {
+    let line = next_line(&listener.checker, event);
+    let row = next_row(&listener.checker, event);
     match listener.checker.feed(event) {
-        Ok(Step::Fine) => {
-            listener.loads.hear(event);
-            None
+        Ok(Step::Fine) => keep(listener, event, line, row, told),
+        Ok(Step::Broken { index, rule }) => {
+            refuse(listener, header, event, index, rule, line, row, told);
+            false
         }
-        Ok(Step::Broken { index, rule }) => Some(refused(listener, header, event, index, rule)),
-        Err(CheckErr::NoMemory) => Some(Explanation::Other {
-            verdict: Verdict::NoMemory,
-        }),
-        Err(CheckErr::TooManyLines) => Some(Explanation::Other {
-            verdict: Verdict::LimitLines,
-        }),
+        Err(CheckErr::NoMemory) => {
+            stop(Verdict::NoMemory, told);
+            false
+        }
+        Err(CheckErr::TooManyLines) => {
+            stop(Verdict::LimitLines, told);
+            false
+        }
     }
 }
 
@@ -115,6 +187,20 @@ fn unreadable(error: ReadErr, version: u8, line: &LineBuf) -> Explanation
     }
 }
 
+/// Each of so many events, which are the trace, is accepted.
+fn accepted(listener: &Listener, events: u64) -> Explanation
+    ensures verdict { verdict_of result ≡ verdict.Accepted events }
+    ensures value { (lines : ℕ) (header : Header) (past : Trace)
+        → HasFollowed lines listener.now header past
+        → result ≡ Accepted events (outstanding_count header past) }
+    ensures line { HasAnyLine result }
+{
+    Explanation::Accepted {
+        events,
+        outstanding: count_outstanding(listener.checker.ports()),
+    }
+}
+
 /// Follows the events of a trace, which are at most so many, to its end, or to one that ends the
 /// check. `line` is room for a line.
 #[tactic(auto, using(crate::proofs::Ends::ends))]
@@ -137,17 +223,18 @@ fn follow<S: Source>(
         (S.faults (source_of lines.new).now) (verdict_of result) }
 {
     let mut events = 0;
+    let mut told = Explanation::Other {
+        verdict: Verdict::NoMemory,
+    };
     'events: loop {
         match next_event(lines, line, most, events, header.version) {
             Ok(Some(event)) => {
-                if let Some(stop) = hear(listener, header, &event) {
-                    return stop;
+                if !hear(listener, header, &event, &mut told) {
+                    return told;
                 }
                 events += 1;
             }
-            Ok(None) => return Explanation::Other {
-                verdict: Verdict::Accepted { events },
-            },
+            Ok(None) => return accepted(listener, events),
             Err(error) => return unreadable(error, header.version, line),
         }
     }
@@ -173,7 +260,12 @@ fn explanation_of<S: Source>(
         Ok(header) => match Checker::with_lines(alloc, header, limits.lines) {
             Ok(checker) => {
                 let loads = LastLoads::new();
-                let mut listener = Listener { checker, loads };
+                let journal = Journal::new(alloc);
+                let mut listener = Listener {
+                    checker,
+                    loads,
+                    journal,
+                };
                 let explanation = follow(&mut listener, lines, &mut line, header, limits.events);
                 drop(listener);
                 explanation

@@ -6,12 +6,14 @@ mod event_line;
 mod explanation;
 mod follow;
 mod listener;
+mod next;
 mod refusal;
-mod refusal_text;
+mod refusals;
 mod to_sink;
 mod verdict_text;
 
 pub use explanation::Explanation;
 pub use follow::explanation_within;
 pub use refusal::Refusal;
+pub use refusals::refusal_text;
 pub use to_sink::tell;

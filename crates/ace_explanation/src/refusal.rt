@@ -1,5 +1,8 @@
+use ace_before::LineBefore;
 use ace_clauses::Letter;
 use ace_event::{Event, Header};
+use ace_expected::Expectation;
+use ace_journal::Led;
 
 /// The first event of a trace that breaks a rule.
 #[derive(Clone, Copy)]
@@ -14,4 +17,10 @@ pub struct Refusal {
     pub rule: u8,
     /// The clause of the rule that it breaks: the first that is false.
     pub letter: Letter,
+    /// What the clause expects and what it got, if it expects a value.
+    pub expected: Option<Expectation>,
+    /// What there is of its line before it, if it is about a line.
+    pub before: Option<LineBefore>,
+    /// What led to it.
+    pub led: Led,
 }

@@ -4,12 +4,12 @@ ghost use Rattle.ace_io.specs.Faults.{HasCause};
 ghost use Rattle.ace_explanation.specs.Explanations.{HasAnyLine};
 ghost use Rattle.ace_explanation.specs.Refusals.{HasLine};
 ghost use Rattle.ace_explanation.specs.Told.{HasTold, HasToldPart};
-ghost use Rattle.ace_explanation.specs.declared.explanation.Explanation.TheVariants.{Refused, Malformed, Other};
+ghost use Rattle.ace_explanation.specs.declared.explanation.Explanation.TheVariants.{Refused, Malformed, Accepted, Other};
 
 use crate::explanation::Explanation;
 use crate::refusal::Refusal;
-use crate::refusal_text::refusal_text;
-use crate::verdict_text::give_verdict;
+use crate::refusals::refusal_text;
+use crate::verdict_text::{give_accepted, give_verdict};
 use ace_call::give_text;
 use ace_io::{Failed, NoMemory, Sink};
 use ace_malformed::{BadLine, bad_line_text};
@@ -32,6 +32,27 @@ fn tell_verdict<K: Sink>(
 {
     match give_verdict(out, name, verdict) {
         Ok(()) => Ok(verdict),
+        Err(failed) => Err(failed),
+    }
+}
+
+/// Tells that the trace is accepted, and what is outstanding at its end.
+#[tactic(auto, using(crate::proofs::Telling::telling))]
+fn tell_accepted<K: Sink>(
+    out: &mut K,
+    name: &str,
+    short: bool,
+    events: u64,
+    outstanding: u64,
+) -> Result<Verdict, Failed>
+    ensures whole { IfOk result (HasTold name.now short (Accepted events outstanding)
+        (K.held out.old) (K.held out.new)) }
+    ensures part { OnErr result (HasToldPart name.now short (Accepted events outstanding)
+        (K.held out.old) (K.held out.new)) }
+    ensures cause { HasCause (K.faults out.old) (K.faults out.new) result }
+{
+    match give_accepted(out, name, short, events, outstanding) {
+        Ok(()) => Ok(Verdict::Accepted { events }),
         Err(failed) => Err(failed),
     }
 }
@@ -109,6 +130,10 @@ pub fn tell<K: Sink>(
     match explanation {
         Explanation::Refused { refusal } => tell_refusal(alloc, out, name, short, refusal),
         Explanation::Malformed { bad } => tell_malformed(alloc, out, name, short, bad),
+        Explanation::Accepted {
+            events,
+            outstanding,
+        } => tell_accepted(out, name, short, events, outstanding),
         Explanation::Other { verdict } => tell_verdict(out, name, short, verdict),
     }
 }

@@ -1,12 +1,14 @@
 // What is told of a verdict.
-ghost use Rattle.std.specs.Prelude.{◌≡◌, ◌++◌, codes, OnOk, OnErr};
+ghost use Rattle.std.specs.Prelude.{◌≡◌, ◌++◌, [], codes, if◌then◌else◌, OnOk, OnErr};
+ghost use Rattle.ace_outstanding.specs.Words.{outstanding_note};
 ghost use Rattle.std.specs.Io.KnownBytes.{Appends};
 ghost use Rattle.ace_io.specs.Faults.{HasCause};
 ghost use Rattle.ace_convert.specs.Output.{AppendsPart};
-ghost use Rattle.ace_explanation.specs.Texts.{verdict_line, verdict_text};
+ghost use Rattle.ace_explanation.specs.Texts.{accepted_text, verdict_line, verdict_text};
 
 use ace_call::give_pieces;
 use ace_io::{Failed, Sink};
+use ace_outstanding::outstanding_note;
 use ace_verdict::Verdict;
 use arrayvec::ArrayString;
 use itoa::Buffer;
@@ -73,4 +75,57 @@ pub(crate) fn give_verdict<K: Sink>(out: &mut K, name: &str, verdict: Verdict) -
 {
     let text = verdict_text(verdict);
     give_three(out, name, ": ", text.as_str())
+}
+
+/// The note on what is outstanding, unless the first line alone was asked for.
+fn note_of(short: bool, outstanding: u64) -> ArrayString<96>
+    ensures { result.bytes ≡ (if short then [] else outstanding_note outstanding) }
+{
+    if short {
+        ArrayString::new()
+    } else {
+        outstanding_note(outstanding)
+    }
+}
+
+/// Gives three pieces as the text of a line, and a note behind it.
+fn give_noted<'a, K: Sink>(
+    out: &mut K,
+    name: &'a str,
+    verdict: &'a str,
+    note: &'a str,
+) -> Result<(), Failed>
+    ensures whole { OnOk result (Appends (K.held out.old) (K.held out.new)
+        ((name.entry.now ++ (codes ": " ++ (verdict.entry.now ++ codes "\n")))
+        ++ note.entry.now)) }
+    ensures part { OnErr result (AppendsPart (K.held out.old) (K.held out.new)
+        ((name.entry.now ++ (codes ": " ++ (verdict.entry.now ++ codes "\n")))
+        ++ note.entry.now)) }
+    ensures cause { HasCause (K.faults out.old) (K.faults out.new) result }
+{
+    give_pieces(out, &[name, ": ", verdict, "\n", note])
+}
+
+/// Gives the line of an accepted trace of this name, and the note on what is outstanding at its end,
+/// unless the first line alone was asked for.
+///
+/// # Errors
+///
+/// `Failed` where the sink failed: a front of the text was given.
+pub(crate) fn give_accepted<K: Sink>(
+    out: &mut K,
+    name: &str,
+    short: bool,
+    events: u64,
+    outstanding: u64,
+) -> Result<(), Failed>
+    ensures whole { OnOk result (Appends (K.held out.old) (K.held out.new)
+        (accepted_text name.now short events outstanding)) }
+    ensures part { OnErr result (AppendsPart (K.held out.old) (K.held out.new)
+        (accepted_text name.now short events outstanding)) }
+    ensures cause { HasCause (K.faults out.old) (K.faults out.new) result }
+{
+    let verdict = verdict_text(Verdict::Accepted { events });
+    let note = note_of(short, outstanding);
+    give_noted(out, name, verdict.as_str(), note.as_str())
 }

@@ -12,17 +12,40 @@ pub type Row = (&'static str, bool, &'static str);
 const GRANTED_TWICE: &str =
     "ACE 1\nPORTS AA\nAR 0 0 00000040 7 1 0 0\nAR 1 0 00000040 7 1 0 0\nG 0 R 0\nG 1 R 0\n";
 
-const ROWS: [Row; 6] = [
+/// A line whose bytes are all different, and a write-back of a port that doesn't hold it.
+const NOT_HELD: &str =
+    "ACE 2\nPORTS A\nMEM 00000040 000102030405060708090a0b0c0d0e0f101112131415161718191a1b1c1d1e1f202122232425262728292a2b2c2d2e2f303132333435363738393a3b3c3d3e3f\nAW 00 0 00000040 3 1 0\n";
+
+/// A dirty line that is passed with a snoop, and an end of its read as if it were clean.
+const PASSED: &str =
+    "ACE 1\nPORTS AA\nAR 1 0 00000040 c 1 0 0\nG 1 R 0\nAC 0 00000040 d\nCR 0 00 I\nR 1 0 0 1 00000000000000000000000000000000\nD 1 00000040 ffffffffffffffff 0 11111111111111111111111111111111111111111111111111111111111111111111111111111111111111111111111111111111111111111111111111111111\nRK 1 UD\nAR 0 1 00000040 7 1 0 0\nG 0 R 1\nAC 1 00000040 7\nCR 1 05 I\nCD 1 0 11111111111111111111111111111111\nR 0 1 4 0 11111111111111111111111111111111\n";
+
+const ROWS: [Row; 9] = [
     ("ACE 1\nPORTS A\n", false, "x.trace: accepted 0\n"),
     (
         "ACE 1\nPORTS AA\nAR 0 0 00000040 7 1 0 0\n",
         false,
-        "x.trace: accepted 1\n",
+        "x.trace: accepted 1\n  note: 1 transaction is outstanding at the end\n",
     ),
     (
         GRANTED_TWICE,
         false,
-        "x.trace:6: refused event 4: K12: the line is still granted to another transaction\n\n  G 1 R 0\n\n  K12d  one grant for a line: no transaction on its line is granted\n",
+        "x.trace:6: refused event 4: K12: the line is still granted to another transaction\n\n  G 1 R 0\n\n  K12d  one grant for a line: no transaction on its line is granted\n\n  Before event 4, line 00000040\n    port 0       I; outstanding: ReadUnique (event 1)\n    port 1       I; outstanding: ReadUnique (event 2)\n    memory       00 x 64; current\n    grant        port 0 ReadUnique (event 1); no snoop sent; 0 of 4 transfers\n\n  What led here, line 00000040\n            1  AR  port 0 asks for ReadUnique, identifier 0\n            2  AR  port 1 asks for ReadUnique, identifier 0\n            3  G   port 0 is granted the line for its ReadUnique\n  >         4  G   port 1 is granted the line for its ReadUnique\n\n  in a design    The line is set free at the last transfer and not at RACK. The next transaction\n                 snoops the requester while the data of the first are still on their way to it,\n                 finds nothing, and there are two owners.\n  in a recorder  look first at an RK behind the next G\n",
+    ),
+    (
+        "ACE 1\nPORTS A\nS 0 00000040 UC\n",
+        false,
+        "x.trace:3: refused event 1: K29: this is no silent transition\n\n  S 0 00000040 UC\n\n  K29a  a silent transition is one: the move is UC -> SC, UC -> I, SC -> I or UD -> SD\n\n  Before event 1 no port holds line 00000040; it has no grant, and memory has zeros there.\n\n  in a design    A cache makes room by dropping a way whose dirty bit has not been written yet, and\n                 a store is lost. Or it turns a shared line unique by itself, as the tag of the\n                 last owner was left in place.\n  in a recorder  look first at the states: read before they changed, or one event late\n",
+    ),
+    (
+        NOT_HELD,
+        false,
+        "x.trace:4: refused event 2: K6: the transaction doesn't start from the state in which the port holds the line\n\n  AW 00 0 00000040 3 1 0\n\n  K6a  it starts from a start state: the port's state of the line is a start state of the kind\n  expected  UD or SD\n  got       I\n\n  Before event 2, line 00000040\n    memory       0001020304050607..3c3d3e3f; current\n    grant        none\n\n  What led here, line 00000040\n            1  MEM memory opens with the line\n  >         2  AW  port 0 asks for WriteBack, identifier 0\n\n  in a design    An eviction looks at the tag, waits for the AW channel, and does not look again:\n                 meanwhile a snoop has taken the line, and the WriteBack puts old data over those\n                 of the new owner.\n  in a recorder  look first at the states: read before they changed, or one event late\n",
+    ),
+    (
+        PASSED,
+        false,
+        "x.trace:15: refused event 13: K18: the first transfer comes too early: announced snoop data are not whole\n\n  R 0 1 4 0 11111111111111111111111111111111\n\n  K18f  a transfer is due: the announced snoop data are whole\n\n  Before event 13, line 00000040\n    port 0       I; outstanding: ReadUnique (event 8)\n    port 1       I; its snoop data are not whole\n    memory       00 x 64; newer data may be elsewhere\n    passed       11 x 64\n    grant        port 0 ReadUnique (event 8); 1 of 1 snoops answered; 0 of 4 transfers\n\n  What led here, line 00000040\n            1  AR  port 1 asks for MakeUnique, identifier 0\n            2  G   port 1 is granted the line for its MakeUnique\n            3  AC  port 0 is snooped: MakeInvalid\n            4  CR  port 0 answers the snoop, state I\n            5  R   port 1 gets a transfer of its MakeUnique, OKAY\n            6  D   port 1 stores\n            7  RK  port 1 acknowledges its MakeUnique, state UD\n            8  AR  port 0 asks for ReadUnique, identifier 1\n            9  G   port 0 is granted the line for its ReadUnique\n           10  AC  port 1 is snooped: ReadUnique\n           11  CR  port 1 answers the snoop, state I, data, PassDirty\n           12  CD  port 1 sends a transfer of the snooped line\n  >        13  R   port 0 gets a transfer of its ReadUnique, OKAY, PassDirty\n\n  in a design    Memory is read ahead of the snoops to save time, and the early data are sent\n                 before the last cache has answered. Or a cache passes a dirty line on for a\n                 ReadClean, and the interconnect, which should have written it to memory, drops it.\n  in a recorder  look first at a G that is missing, or behind the AC\n",
     ),
     (
         GRANTED_TWICE,
@@ -32,7 +55,7 @@ const ROWS: [Row; 6] = [
     (
         "ACE 2\nPORTS AL\nRK 01 UC\nB\n",
         false,
-        "x.trace:3: refused event 1: K1: an ACE-Lite port has no cache: it is never snooped, acknowledges nothing and holds no lines\n\n  RK 01 UC\n\n  K1b  the port has this record: RK, WK, AC, CR, CD, S, L and D are of an ACE port\n",
+        "x.trace:3: refused event 1: K1: an ACE-Lite port has no cache: it is never snooped, acknowledges nothing and holds no lines\n\n  RK 01 UC\n\n  K1b  the port has this record: RK, WK, AC, CR, CD, S, L and D are of an ACE port\n\n  in a design    A snoop filter keeps one presence bit for each port with a cache, and its index is\n                 taken for the number of the port: an I/O master is snooped, which can never\n                 answer. Or a monitor is bound to the wrong interface.\n",
     ),
     (
         "ACE 2\nPORTS AL\nRK 1f UC\n",
@@ -64,7 +87,7 @@ pub fn is_told(
 #[test]
 fn traces_have_their_texts(rt: HostRuntime) -> Result<(), Fail> {
     for (trace, short, wanted) in ROWS {
-        let (told, holds) = is_told(rt.alloc(), trace, 99, 999, short, wanted)?;
+        let (told, holds) = is_told(rt.alloc(), trace, 99, 9999, short, wanted)?;
         assert!(rt; told.is_some() && holds, "{wanted}");
     }
     Ok(())

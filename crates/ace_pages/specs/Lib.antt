@@ -1,3 +1,4 @@
+pub mod Advice
 pub mod Named
 pub mod Pages
 pub mod Told

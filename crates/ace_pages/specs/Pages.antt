@@ -2,6 +2,7 @@
 use Rattle.std.specs.Prelude.{ℕ, ◌++◌, if◌then◌else◌, ◌+◌, zero, suc, List, [], ◌∷◌, Option, Some, None, codes, decimal, flat_map, length, not, ◌==◌, Bool}
 use Rattle.ace_clauses.specs.declared.letters.Letter.{Letter}
 use Rattle.ace_clauses.specs.declared.letters.Letter.TheVariants.{A, B, C, D, E, F, G, H, I}
+use Rattle.ace_pages.specs.Advice.{advice}
 use Rattle.ace_pages.specs.declared.page.Page.{Page}
 use Rattle.ace_words.specs.Breaks.{wrong_with}
 use Rattle.ace_words.specs.Rules.{kept_where, rule_title}
@@ -50,9 +51,9 @@ is_clause rule letter = not (length (kept_where rule letter) == 0)
 unfoldable pub clause_part : ℕ → Letter → List ℕ
 clause_part rule letter = if is_clause rule letter then clause_lines rule letter else []
 
--- what a page tells: of a rule, or of one of its clauses
+-- what a page tells: of a rule, with where to look first when it is broken, or of one of its clauses
 abbrev pub clauses_text : ℕ → Option Letter → List ℕ
-clauses_text rule None = flat_map (clause_part rule) letters
+clauses_text rule None = flat_map (clause_part rule) letters ++ advice rule
 clauses_text rule (Some letter) = clause_lines rule letter
 
 abbrev pub page_text : Page → List ℕ

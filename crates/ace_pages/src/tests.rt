@@ -31,6 +31,9 @@ fn pages_have_their_texts(rt: HostRuntime) {
         broken:  a transaction of this kind can't be exclusive
   K7b  only an ACE port issues an exclusive transaction
         broken:  an ACE-Lite port issues no exclusive transaction
+
+  in a design    The lock bit comes from the instruction and the kind from the cache: an exclusive
+                 load that a prefetch for stores has turned into a ReadUnique still carries it.
 ";
     assert!(rt; tells(alloc, "K7", Some(whole)) && tells(alloc, "K10b", Some(second)));
     assert!(rt;

@@ -1,7 +1,9 @@
 // What the pages tell.
 ghost use Rattle.std.specs.Prelude.{◌≡◌, ◌++◌, ℕ, flat_map, codes, OnOk};
+ghost use Rattle.ace_pages.specs.Advice.{advice};
 ghost use Rattle.ace_pages.specs.Pages.{all_titles, clause_lines, clause_part, kept_line, letters, line_of, page_text, title_line};
 
+use crate::advice::push_advice;
 use crate::names::{LETTERS, is_clause, page_name};
 use crate::page::Page;
 use ace_clauses::{ClauseName, Letter};
@@ -9,7 +11,7 @@ use ace_io::NoMemory;
 use ace_words::{kept_where, rule_title, wrong_with};
 
 /// Adds the bytes at the end.
-fn push(text: &mut Vec<u8>, bytes: &[u8]) -> Result<(), NoMemory>
+pub(crate) fn push(text: &mut Vec<u8>, bytes: &[u8]) -> Result<(), NoMemory>
     ensures { OnOk result (text.new.items ≡ text.old.items ++ bytes.now) }
 {
     match text.extend_from_slice(bytes) {
@@ -92,6 +94,15 @@ fn push_clauses(text: &mut Vec<u8>, rule: u8) -> Result<(), NoMemory>
     Ok(())
 }
 
+/// Adds the lines of each clause of the rule, and where to look first when it is broken.
+fn push_rule(text: &mut Vec<u8>, rule: u8) -> Result<(), NoMemory>
+    ensures { OnOk result (text.new.items ≡ text.old.items
+        ++ (flat_map (clause_part rule) letters ++ advice rule)) }
+{
+    push_clauses(text, rule)?;
+    push_advice(text, rule)
+}
+
 /// Adds what the page tells at the end.
 ///
 /// # Errors
@@ -102,7 +113,7 @@ pub fn push_page(text: &mut Vec<u8>, page: Page) -> Result<(), NoMemory>
 {
     push_title(text, page.rule)?;
     match page.letter {
-        None => push_clauses(text, page.rule),
+        None => push_rule(text, page.rule),
         Some(letter) => push_clause(text, page.rule, letter),
     }
 }

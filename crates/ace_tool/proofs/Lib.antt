@@ -1,12 +1,14 @@
 pub mod BatchDone
 pub mod BatchNumbers
 pub mod BatchWordSteps
+pub mod ChartWordSteps
 pub mod Checking
 pub mod Concluding
 pub mod Examining
 pub mod ExplainWords
 pub mod FoundBytes
 pub mod Lines
+pub mod MergeSteps
 pub mod ListReading
 pub mod Notes
 pub mod OneAsked

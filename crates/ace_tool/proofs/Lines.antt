@@ -12,4 +12,12 @@ seven_pieces a b c d e f g =
     ∙ sym (append_assoc a b ((c ++ d ++ e ++ f) ++ g))
     ∙ sym (append_assoc (a ++ b) (c ++ d ++ e ++ f) g)
 
+-- and a note behind them
+pub eight_pieces : (a b c d e f g h : List ℕ)
+    → a ++ (b ++ (c ++ (d ++ (e ++ (f ++ (g ++ (h ++ []))))))) ≡ (a ++ b) ++ (c ++ d ++ e ++ f) ++ g ++ h
+eight_pieces a b c d e f g h =
+    ap (λ t. a ++ (b ++ (c ++ (d ++ (e ++ (f ++ t)))))) (sym (append_assoc g h []))
+    ∙ seven_pieces a b c d e f (g ++ h)
+    ∙ sym (append_assoc ((a ++ b) ++ (c ++ d ++ e ++ f)) g h)
+
 pub ruleset lines = (append-nil)

@@ -4,6 +4,7 @@ use Rattle.std.proofs.lemmas.Bool.{cases_lt}
 use Rattle.std.proofs.lemmas.List.{take-append-le}
 use Rattle.std.specs.Io.KnownBytes.{Consumes, IsAtEnd}
 use Rattle.ace_io.specs.Line.{in_front}
+use Rattle.ace_verdict.specs.Ended.{IsOutstanding}
 use Rattle.ace_verdict.specs.Verdict.{IsVerdictWithin}
 use Rattle.ace_verdict.specs.declared.limits.Limits.{Limits}
 use Rattle.ace_verdict.specs.declared.verdict.Verdict.{Verdict}
@@ -37,17 +38,21 @@ reads_compressed limits None new front packing taken whole is = tt
 reads_compressed limits (Some bytes) new front packing taken whole is = reads_packing (Some bytes) new front (Some packing) taken whole is
 
 -- the verdict is that on all of the bytes
-pub reads_verdict : (limits : Limits) (old new : Option (List ℕ)) (front : List ℕ) (verdict : Verdict) → Consumes old new front
+pub reads_verdict : (limits : Limits) (old new : Option (List ℕ)) (front : List ℕ) (verdict : Verdict) (outstanding : ℕ) → Consumes old new front
     → (length front < 4 → IsAtEnd new) → None ≡ packing_of front → IfSome (in_front front new) (λ bytes. IsVerdictWithin limits bytes verdict)
-    → IfSome old (λ bytes. IsRead limits bytes (Told verdict))
-reads_verdict limits None new front verdict taken whole is told = tt
-reads_verdict limits (Some bytes) None front verdict taken whole is told = absurd taken
-reads_verdict limits (Some bytes) (Some rest) front verdict taken whole is told =
-    (subst (λ b. IsVerdictWithin limits b verdict) (sym taken) told, λ due. reads_packing (Some bytes) (Some rest) front None taken whole is)
+    → IfSome (in_front front new) (λ bytes. IsOutstanding bytes verdict outstanding)
+    → IfSome old (λ bytes. IsRead limits bytes (Told verdict outstanding))
+reads_verdict limits None new front verdict outstanding taken whole is told left = tt
+reads_verdict limits (Some bytes) None front verdict outstanding taken whole is told left = absurd taken
+reads_verdict limits (Some bytes) (Some rest) front verdict outstanding taken whole is told left = (
+  subst (λ b. IsVerdictWithin limits b verdict) (sym taken) told,
+  subst (λ b. IsOutstanding b verdict outstanding) (sym taken) left,
+  λ due. reads_packing (Some bytes) (Some rest) front None taken whole is,
+)
 
 -- nothing more is known where the source failed
-pub reads_fault : (limits : Limits) (old : Option (List ℕ)) → IfSome old (λ bytes. IsRead limits bytes (Told ReadFault))
+pub reads_fault : (limits : Limits) (old : Option (List ℕ)) → IfSome old (λ bytes. IsRead limits bytes (Told ReadFault 0))
 reads_fault limits None = tt
-reads_fault limits (Some bytes) = (tt, λ due. absurd due)
+reads_fault limits (Some bytes) = (tt, refl, λ due. absurd due)
 
 pub ruleset reading = (reads_compressed, reads_verdict, reads_fault)

@@ -1,17 +1,22 @@
 -- Traces that were all accepted.
 use Rattle.std.proofs.Common.{◌≡◌, ◌≢◌, ◌==◌, ◌||◌, ℕ, Bool, true, false, List, [], ◌∷◌, Option, None, Some, IfSome, inl, inr, refl, subst, sym, ◌∙◌}
 use Rattle.std.proofs.lemmas.Bool.{cases_Bool, eqb-true}
+use Rattle.arrayvec.specs.ArrayString.{ArrayString}
+use Rattle.ace_side.specs.declared.line.SideEnd.{SideEnd}
 use Rattle.ace_side.specs.declared.line.SideEnd.TheVariants.{End, Broken, Cut}
+use Rattle.ace_verdict.specs.Ended.{LeavesOutstanding}
 use Rattle.ace_verdict.specs.Verdict.{IsVerdictWithin, ReadsSoundWithin}
 use Rattle.ace_verdict.specs.declared.limits.Limits.{Limits}
 use Rattle.ace_verdict.specs.declared.verdict.Verdict.TheVariants.{Accepted, Refused, Malformed, ReadFault, LimitEvents, LimitLines, NoMemory}
 use Rattle.ace_tool.specs.Asked.{Options, is_input}
-use Rattle.ace_tool.specs.Checked.{AreRight, AreSound, Checked, IsJudged, IsNext, IsNextBy, IsRead, IsSoundBy, IsWhole, IsWholeBy, accepted_of, statuses_of}
-use Rattle.ace_tool.specs.Gaps.{judged}
+use Rattle.ace_tool.specs.Checked.{AreRight, AreSound, Checked, IsJudged, IsNext, IsNextBy, IsRead, IsSoundBy, IsSoundIn, IsWhole, IsWholeBy, accepted_of, statuses_of}
+use Rattle.ace_tool.specs.Gaps.{gap_at, gap_without, judged, report_by}
 use Rattle.ace_tool.specs.Held.{Held, told_of}
 use Rattle.ace_tool.specs.Reports.{first_of, status_of, status_of_all}
 use Rattle.ace_tool.specs.Seen.{occurs}
 use Rattle.ace_tool.specs.declared.check_options.EndRules.{EndRules}
+use Rattle.ace_tool.specs.declared.gap.Gap.{Gap}
+use Rattle.ace_tool.specs.declared.report.Accepted.{Accepted as AcceptedTrace}
 use Rattle.ace_tool.specs.declared.report.Report.{Report}
 use Rattle.ace_tool.specs.declared.report.Report.TheVariants.{Told, Shut, Compressed, Unfinished, BadSide}
 use Rattle.ace_tool.specs.declared.side.SideFault.TheVariants as fault
@@ -69,14 +74,15 @@ before x xs a = record {
 }
 
 -- what is told then is that the trace is accepted
-tells_so : (report : Report) (xs : List ℕ) → AreAccepted (status_of report ∷ xs) → (events : ℕ) × (report ≡ Told (Accepted events))
-tells_so (Told (Accepted events)) xs a = (events, refl)
-tells_so (Told (Refused index rule)) xs a = absurd (is_none a.refused)
-tells_so (Told (Malformed line reason)) xs a = absurd (is_none a.malformed)
-tells_so (Told ReadFault) xs a = absurd (is_none a.unreadable)
-tells_so (Told LimitEvents) xs a = absurd (is_none a.limited)
-tells_so (Told LimitLines) xs a = absurd (is_none a.limited)
-tells_so (Told NoMemory) xs a = absurd (is_none a.no_memory)
+tells_so : (report : Report) (xs : List ℕ) → AreAccepted (status_of report ∷ xs)
+    → (events : ℕ) × (outstanding : ℕ) × (report ≡ Told (Accepted events) outstanding)
+tells_so (Told (Accepted events) outstanding) xs a = (events, outstanding, refl)
+tells_so (Told (Refused index rule) outstanding) xs a = absurd (is_none a.refused)
+tells_so (Told (Malformed line reason) outstanding) xs a = absurd (is_none a.malformed)
+tells_so (Told ReadFault outstanding) xs a = absurd (is_none a.unreadable)
+tells_so (Told LimitEvents outstanding) xs a = absurd (is_none a.limited)
+tells_so (Told LimitLines outstanding) xs a = absurd (is_none a.limited)
+tells_so (Told NoMemory outstanding) xs a = absurd (is_none a.no_memory)
 tells_so (Shut error) xs a = absurd (is_none a.unreadable)
 tells_so (Compressed packing) xs a = absurd (is_none a.unreadable)
 tells_so (Unfinished events gap) xs a = absurd (is_none a.broken_off)
@@ -85,19 +91,28 @@ tells_so (BadSide fault.ReadFault) xs a = absurd (is_none a.unreadable)
 tells_so (BadSide fault.NoMemory) xs a = absurd (is_none a.no_memory)
 tells_so (BadSide (fault.Shut error)) xs a = absurd (is_none a.unreadable)
 
--- so by its side file it is whole
-whole_by : (ends : EndRules) (n events : ℕ) (found : SideFound) → judged ends n found ≡ Told (Accepted events) → IsWholeBy ends n found
-whole_by ends n events Absent e = elim (cases_Bool ends.require_end) [
-  | inl t ↦ let bad = rw t at e in absurd (cc)
-  | inr f ↦ f
-]
-whole_by ends n events (Ends None last) e = absurd (cc)
-whole_by ends n events (Ends (Some (End count)) last) e = elim (cases_Bool (count == n)) [
+-- so it has no gap, and nothing is outstanding where nothing may be
+no_gap : (ends : EndRules) (one : AcceptedTrace) (gap : Option Gap) (events outstanding : ℕ)
+    → report_by ends one gap ≡ Told (Accepted events) outstanding → (gap ≡ None) × (ends.drained ≡ true → one.outstanding ≡ 0)
+no_gap ends one (Some gap) events outstanding e = absurd (cc)
+no_gap ends one None events outstanding e = (
+  refl,
+  λ drained. elim (cases_Bool (one.outstanding == 0)) [
+    | inl none ↦ eqb-true one.outstanding 0 none
+    | inr some ↦ let bad = rw (drained, some) at e in absurd (cc)
+  ],
+)
+
+-- by its side file it is whole
+whole_end : (ends : EndRules) (n : ℕ) (end : Option SideEnd) (last : Option ArrayString) → gap_at ends n end last ≡ None
+    → IsWholeBy ends n (Ends end last)
+whole_end ends n None last e = absurd (cc)
+whole_end ends n (Some (End count)) last e = elim (cases_Bool (count == n)) [
   | inl t ↦ eqb-true count n t
   | inr f ↦ let bad = rw f at e in absurd (cc)
 ]
-whole_by ends n events (Ends (Some (Broken count)) last) e = absurd (cc)
-whole_by ends n events (Ends (Some (Cut count)) last) e = elim (cases_Bool ends.allow_cut) [
+whole_end ends n (Some (Broken count)) last e = absurd (cc)
+whole_end ends n (Some (Cut count)) last e = elim (cases_Bool ends.allow_cut) [
   | inl allowed ↦ (
     allowed,
     elim (cases_Bool (count == n)) [
@@ -107,52 +122,67 @@ whole_by ends n events (Ends (Some (Cut count)) last) e = elim (cases_Bool ends.
   )
   | inr f ↦ let bad = rw f at e in absurd (cc)
 ]
-whole_by ends n events (Faulty fault) e = absurd (cc)
+
+whole_without : (ends : EndRules) (n : ℕ) → gap_without ends ≡ None → IsWholeBy ends n Absent
+whole_without ends n e = elim (cases_Bool ends.require_end) [
+  | inl t ↦ let bad = rw t at e in absurd (cc)
+  | inr f ↦ f
+]
+
+whole_by : (ends : EndRules) (one : AcceptedTrace) (events outstanding : ℕ) (found : SideFound)
+    → judged ends one found ≡ Told (Accepted events) outstanding → IsWholeBy ends one.events found × (ends.drained ≡ true → one.outstanding ≡ 0)
+whole_by ends one events outstanding Absent e =
+    let none = no_gap ends one (gap_without ends) events outstanding e in (whole_without ends one.events none.0, none.1)
+whole_by ends one events outstanding (Ends end last) e =
+    let none = no_gap ends one (gap_at ends one.events end last) events outstanding e in (whole_end ends one.events end last none.0, none.1)
+whole_by ends one events outstanding (Faulty fault) e = absurd (cc)
 
 -- and alone it is accepted
-alone : (options : Options) (holds : List ℕ → Held) (name : List ℕ) (told report : Report) (events : ℕ)
-    → IsJudged options holds name (accepted_of told) told report → report ≡ Told (Accepted events)
-    → ((n : ℕ) × (told ≡ Told (Accepted n))) × IsWhole options holds name
-alone options holds name (Told (Accepted n)) report events (found, is, judged) e =
-    ((n, refl), (n, found, is, whole_by options.ends n events found (sym judged ∙ e)))
-alone options holds name (Told (Refused index rule)) report events same e = absurd (cc)
-alone options holds name (Told (Malformed line reason)) report events same e = absurd (cc)
-alone options holds name (Told ReadFault) report events same e = absurd (cc)
-alone options holds name (Told LimitEvents) report events same e = absurd (cc)
-alone options holds name (Told LimitLines) report events same e = absurd (cc)
-alone options holds name (Told NoMemory) report events same e = absurd (cc)
-alone options holds name (Shut error) report events same e = absurd (cc)
-alone options holds name (Compressed packing) report events same e = absurd (cc)
-alone options holds name (Unfinished n gap) report events same e = absurd (cc)
-alone options holds name (BadSide fault) report events same e = absurd (cc)
+alone : (options : Options) (holds : List ℕ → Held) (name : List ℕ) (told report : Report) (events outstanding : ℕ)
+    → IsJudged options holds name (accepted_of told) told report → report ≡ Told (Accepted events) outstanding
+    → ((n : ℕ) × (left : ℕ) × (told ≡ Told (Accepted n) left) × (options.ends.drained ≡ true → left ≡ 0)) × IsWhole options holds name
+alone options holds name (Told (Accepted n) left) report events outstanding (found, is, judged) e =
+    let whole = whole_by options.ends (record { events = n; outstanding = left }) events outstanding found (sym judged ∙ e) in
+    ((n, left, refl, whole.1), (n, found, is, whole.0))
+alone options holds name (Told (Refused index rule) left) report events outstanding same e = absurd (cc)
+alone options holds name (Told (Malformed line reason) left) report events outstanding same e = absurd (cc)
+alone options holds name (Told ReadFault left) report events outstanding same e = absurd (cc)
+alone options holds name (Told LimitEvents left) report events outstanding same e = absurd (cc)
+alone options holds name (Told LimitLines left) report events outstanding same e = absurd (cc)
+alone options holds name (Told NoMemory left) report events outstanding same e = absurd (cc)
+alone options holds name (Shut error) report events outstanding same e = absurd (cc)
+alone options holds name (Compressed packing) report events outstanding same e = absurd (cc)
+alone options holds name (Unfinished n gap) report events outstanding same e = absurd (cc)
+alone options holds name (BadSide fault) report events outstanding same e = absurd (cc)
 
 -- what acceptance promises of bytes that may not be told
-told_sound : (limits : Limits) → Promise limits → (told : Option (List ℕ)) (events : ℕ)
-    → IfSome told (λ bytes. IsRead limits bytes (Told (Accepted events))) → IfSome told (ReadsSoundWithin limits.events)
-told_sound limits promise None events read = tt
-told_sound limits promise (Some bytes) events read = promise bytes events read.0
+told_sound : (options : Options) → Promise options.limits → (told : Option (List ℕ)) (events left : ℕ) → (options.ends.drained ≡ true → left ≡ 0)
+    → IfSome told (λ bytes. IsRead options.limits bytes (Told (Accepted events) left)) → IfSome told (IsSoundIn options)
+told_sound options promise None events left none read = tt
+told_sound options promise (Some bytes) events left none (is, leaves, due) =
+    (promise bytes events is, λ drained. subst (LeavesOutstanding bytes) (none drained) leaves)
 
 -- what was told of bytes that are accepted
 reads_sound : (options : Options) → Promise options.limits → (holds : List ℕ → Held) (input between left : Option (List ℕ)) (past : List Checked)
-    (name : List ℕ) (n : ℕ) (of_input : Bool) → AreRight options holds input past between
-    → IsNextBy options.limits of_input (told_of (holds name)) between (Told (Accepted n)) left
-    → IsSoundBy options.limits of_input (told_of (holds name))
-    ((b : Option (List ℕ)) × AreRight options holds input past b × IfSome b (ReadsSoundWithin options.limits.events))
-reads_sound options promise holds input between left past name n true right next =
-    (between, right, told_sound options.limits promise between n next)
-reads_sound options promise holds input between left past name n false right next =
-    told_sound options.limits promise (told_of (holds name)) n next.0
+    (name : List ℕ) (n outstanding : ℕ) (of_input : Bool) → AreRight options holds input past between → (options.ends.drained ≡ true → outstanding ≡ 0)
+    → IsNextBy options.limits of_input (told_of (holds name)) between (Told (Accepted n) outstanding) left
+    → IsSoundBy options of_input (told_of (holds name))
+    ((b : Option (List ℕ)) × AreRight options holds input past b × IfSome b (IsSoundIn options))
+reads_sound options promise holds input between left past name n outstanding true right none next =
+    (between, right, told_sound options promise between n outstanding none next)
+reads_sound options promise holds input between left past name n outstanding false right none next =
+    told_sound options promise (told_of (holds name)) n outstanding none next.0
 
 next_sound : (options : Options) → Promise options.limits → (holds : List ℕ → Held) (input between left : Option (List ℕ)) (past : List Checked)
     (c : Checked) (xs : List ℕ) → AreAccepted (status_of c.report ∷ xs) → AreRight options holds input past between
     → IsNext options holds c.name between c.report left
-    → IsWhole options holds c.name × IsSoundBy options.limits (is_input c.name) (told_of (holds c.name))
-    ((b : Option (List ℕ)) × AreRight options holds input past b × IfSome b (ReadsSoundWithin options.limits.events))
+    → IsWhole options holds c.name × IsSoundBy options (is_input c.name) (told_of (holds c.name))
+    ((b : Option (List ℕ)) × AreRight options holds input past b × IfSome b (IsSoundIn options))
 next_sound options promise holds input between left past c xs a right next =
-    let (events, tells) = tells_so c.report xs a in
-    let ((n, same), whole) = alone options holds c.name next.told c.report events next.judged tells in (
+    let (events, outstanding, tells) = tells_so c.report xs a in
+    let ((n, rest, same, none), whole) = alone options holds c.name next.told c.report events outstanding next.judged tells in (
       whole,
-      reads_sound options promise holds input between left past c.name n (is_input c.name) right
+      reads_sound options promise holds input between left past c.name n rest (is_input c.name) right none
           (subst (λ t. IsNextBy options.limits (is_input c.name) (told_of (holds c.name)) between t left) same next.alone),
     )
 

@@ -1,9 +1,10 @@
 -- What was told of traces, and whether it is right.
 use Rattle.std.specs.Prelude.{◌≡◌, ⊤, ℕ, Bool, true, false, List, [], ◌∷◌, ◌++◌, Option, None, Some, IfSome, map}
 use Rattle.ace_side.specs.declared.line.SideEnd.TheVariants.{End, Cut}
+use Rattle.ace_verdict.specs.Ended.{IsOutstanding, LeavesOutstanding}
 use Rattle.ace_verdict.specs.Verdict.{IsDueVerdict, IsVerdictWithin, ReadsSoundWithin}
 use Rattle.ace_verdict.specs.declared.limits.Limits.{Limits}
-use Rattle.ace_verdict.specs.declared.verdict.Verdict.TheVariants.{Accepted}
+use Rattle.ace_verdict.specs.declared.verdict.Verdict.TheVariants as verdict
 use Rattle.ace_tool.specs.Asked.{Options, SideAsked, is_input}
 use Rattle.ace_tool.specs.Gaps.{judged}
 use Rattle.ace_tool.specs.Held.{Held, told_of}
@@ -11,6 +12,7 @@ use Rattle.ace_tool.specs.Packing.{packing_of}
 use Rattle.ace_tool.specs.Reports.{line_of, status_of}
 use Rattle.ace_tool.specs.Sides.{IsFound, place_of}
 use Rattle.ace_tool.specs.declared.check_options.EndRules.{EndRules}
+use Rattle.ace_tool.specs.declared.report.Accepted.{Accepted}
 use Rattle.ace_tool.specs.declared.report.Report.{Report}
 use Rattle.ace_tool.specs.declared.report.Report.TheVariants.{Told, Shut, Compressed}
 use Rattle.ace_tool.specs.declared.side.SideFound.{SideFound}
@@ -22,10 +24,10 @@ pub record Checked : Type 0 where
   pub report : Report
 
 -- This is to be told of these bytes alone, within the limits: how they are compressed, or else the
--- verdict on them. A fault of the input and want of memory may take the place of both.
+-- verdict on them, and how many transactions are outstanding at the end of an accepted trace. A fault of the input and want of memory may take the place of both.
 abbrev pub IsRead : Limits → List ℕ → Report → Type 0
-IsRead limits bytes (Told verdict) =
-    IsVerdictWithin limits bytes verdict × (IsDueVerdict verdict → packing_of bytes ≡ None)
+IsRead limits bytes (Told v outstanding) = IsVerdictWithin limits bytes v
+    × IsOutstanding bytes v outstanding × (IsDueVerdict v → packing_of bytes ≡ None)
 IsRead limits bytes (Compressed packing) = packing_of bytes ≡ Some packing
 IsRead limits bytes report = ⊥
 
@@ -40,19 +42,20 @@ abbrev pub IsNextBy : Limits → Bool → Option (List ℕ) → Option (List ℕ
 IsNextBy limits true told input report left = IfSome input (λ bytes. IsRead limits bytes report)
 IsNextBy limits false told input report left = IsOpened limits told report × (left ≡ input)
 
--- how many events an accepted trace has
-abbrev pub accepted_of : Report → Option ℕ
-accepted_of (Told (Accepted events)) = Some events
+-- an accepted trace: how many events it has, and how many transactions are outstanding at its end
+abbrev pub accepted_of : Report → Option Accepted
+accepted_of (Told (verdict.Accepted events) outstanding) =
+    Some (record { events = events; outstanding = outstanding })
 accepted_of report = None
 
 -- The first was told of a trace alone, and the second with its side file, which is that of an
 -- accepted trace.
-abbrev pub IsJudged : Options → (List ℕ → Held) → List ℕ → Option ℕ → Report
+abbrev pub IsJudged : Options → (List ℕ → Held) → List ℕ → Option Accepted → Report
     → Report → Type 0
 IsJudged options holds name None told report = report ≡ told
-IsJudged options holds name (Some events) told report =
+IsJudged options holds name (Some accepted) told report =
     (found : SideFound) × IsFound holds (place_of options.side name) found
-    × (report ≡ judged options.ends events found)
+    × (report ≡ judged options.ends accepted found)
 
 -- This is to be told of the trace of this name, by what the files hold and by standard input before
 -- and after.
@@ -84,11 +87,16 @@ lines_of side (c ∷ past) = lines_of side past ++ line_of side c.name c.report
 abbrev pub statuses_of : List Checked → List ℕ
 statuses_of checked = map (λ c. status_of c.report) checked
 
--- Of standard input this holds; what a file holds is a whole trace with all that acceptance
--- promises.
-abbrev pub IsSoundBy : Limits → Bool → Option (List ℕ) → Type 0 → Type 0
-IsSoundBy limits true told of_input = of_input
-IsSoundBy limits false told of_input = IfSome told (ReadsSoundWithin limits.events)
+-- The bytes are a whole trace with all that acceptance promises, and where none may be, no
+-- transaction is outstanding at its end.
+abbrev pub IsSoundIn : Options → List ℕ → Type 0
+IsSoundIn options bytes = ReadsSoundWithin options.limits.events bytes
+    × (options.ends.drained ≡ true → LeavesOutstanding bytes 0)
+
+-- Of standard input this holds; what a file holds is such a trace.
+abbrev pub IsSoundBy : Options → Bool → Option (List ℕ) → Type 0 → Type 0
+IsSoundBy options true told of_input = of_input
+IsSoundBy options false told of_input = IfSome told (IsSoundIn options)
 
 -- A trace of so many events isn't said to be broken off: there is no side file, and none has to be;
 -- or it ends with END and this number, or with CUT and this number, and that may be.
@@ -106,12 +114,11 @@ IsWhole options holds name =
 
 -- The traces that were told of are whole, also by their side files, and have all that acceptance
 -- promises, where their bytes are told: each is coherent, its exclusive stores are exclusive, its
--- barriers order, and its Syncs wait for all.
+-- barriers order, and its Syncs wait for all; and no transaction is outstanding where none may be.
 abbrev pub AreSound : Options → (List ℕ → Held) → Option (List ℕ) → List Checked
     → Type 0
 AreSound options holds input [] = ⊤
 AreSound options holds input (c ∷ past) = AreSound options holds input past
     × IsWhole options holds c.name
-    × IsSoundBy options.limits (is_input c.name) (told_of (holds c.name)) ((between : Option (List ℕ))
-    × AreRight options holds input past between
-    × IfSome between (ReadsSoundWithin options.limits.events))
+    × IsSoundBy options (is_input c.name) (told_of (holds c.name)) ((between : Option (List ℕ))
+    × AreRight options holds input past between × IfSome between (IsSoundIn options))

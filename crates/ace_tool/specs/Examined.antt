@@ -1,6 +1,6 @@
 -- What is found in the file of a trace, and what is to be told of it.
 use Rattle.std.specs.Prelude.{◌≡◌, ⊤, ℕ, List, Option, None, Some, IfSome}
-use Rattle.ace_explanation.specs.Explanations.{IsExplanationWithin, verdict_of}
+use Rattle.ace_explanation.specs.Explanations.{IsExplanationWithin, outstanding_in, verdict_of}
 use Rattle.ace_tool.specs.Asked.{Options}
 use Rattle.ace_tool.specs.Checked.{IsJudged, IsOpened, accepted_of}
 use Rattle.ace_tool.specs.Held.{Held, told_of}
@@ -14,7 +14,7 @@ use Rattle.ace_verdict.specs.declared.limits.Limits.{Limits}
 
 -- what `check` tells of a trace alone, by what was found in it
 abbrev pub report_of : Finding → Report
-report_of (finding.Explained x) = Told (verdict_of x)
+report_of (finding.Explained x) = Told (verdict_of x) (outstanding_in x)
 report_of (finding.Shut error) = Shut error
 report_of (finding.Compressed packing) = Compressed packing
 

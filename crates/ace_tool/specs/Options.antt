@@ -3,7 +3,7 @@ use Rattle.std.specs.Prelude.{◌==◌, ℕ, Bool, true, false, if◌then◌else
 use Rattle.std.specs.List.{position_or_len}
 use Rattle.ace_tool.specs.declared.check_options.EndRules.{EndRules}
 use Rattle.ace_tool.specs.declared.options.Flag.{Flag}
-use Rattle.ace_tool.specs.declared.options.Flag.TheVariants.{NoSide, RequireEnd, AllowCut}
+use Rattle.ace_tool.specs.declared.options.Flag.TheVariants.{NoSide, RequireEnd, AllowCut, Drained}
 use Rattle.ace_tool.specs.declared.options.Valued.{Valued}
 use Rattle.ace_tool.specs.declared.options.Valued.TheVariants.{MostEvents, MostLines, Side}
 
@@ -11,7 +11,7 @@ use Rattle.ace_tool.specs.declared.options.Valued.TheVariants.{MostEvents, MostL
 abbrev pub flags : List (List ℕ × Flag)
 flags =
     (codes "--no-side", NoSide) ∷ (codes "--require-end", RequireEnd)
-    ∷ (codes "--allow-cut", AllowCut) ∷ []
+    ∷ (codes "--allow-cut", AllowCut) ∷ (codes "--drained", Drained) ∷ []
 
 -- those that have a value, which is the next word or stands behind `=`
 abbrev pub valued : List (List ℕ × Valued)
@@ -37,7 +37,7 @@ none_given = record {
   most_lines = None;
   side = None;
   no_side = false;
-  ends = record { require_end = false; allow_cut = false };
+  ends = record { require_end = false; allow_cut = false; drained = false };
 }
 
 -- one more that stands alone, which may be given again
@@ -45,6 +45,7 @@ abbrev pub with_flag : Flag → Given → Given
 with_flag NoSide given = record given { no_side = true }
 with_flag RequireEnd given = record given { ends = record given.ends { require_end = true } }
 with_flag AllowCut given = record given { ends = record given.ends { allow_cut = true } }
+with_flag Drained given = record given { ends = record given.ends { drained = true } }
 
 -- one more with a value, which can be given once
 abbrev pub with_value : Valued → List ℕ → Given → Option Given

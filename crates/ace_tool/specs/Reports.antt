@@ -4,6 +4,7 @@ use Rattle.std.specs.List.{list_any}
 use Rattle.ace_grammar.specs.Reasons.{number_of_reason}
 use Rattle.ace_verdict.specs.declared.verdict.Verdict.{Verdict}
 use Rattle.ace_verdict.specs.declared.verdict.Verdict.TheVariants.{Accepted, Refused, Malformed, ReadFault, LimitEvents, LimitLines, NoMemory}
+use Rattle.ace_outstanding.specs.Words.{outstanding_note, outstanding_words}
 use Rattle.ace_side.specs.Reasons.{number_of_reason as number_of_side_reason}
 use Rattle.ace_tool.specs.Asked.{Named, SideAsked, is_input}
 use Rattle.ace_tool.specs.Packing.{advice_of}
@@ -34,7 +35,7 @@ status_of_fault (fault.Shut error) = 4
 
 -- the status of one trace
 abbrev pub status_of : Report → ℕ
-status_of (Told verdict) = status_of_verdict verdict
+status_of (Told verdict outstanding) = status_of_verdict verdict
 status_of (Shut error) = 4
 status_of (Compressed packing) = 4
 status_of (Unfinished events gap) = 8
@@ -88,6 +89,9 @@ gap_text events (gap.Stopped count (Some last)) =
     ++ codes ": " ++ last.bytes
 gap_text events (gap.Cut count) =
     codes "unfinished: cut after " ++ decimal count ++ codes " events on demand"
+gap_text events (gap.Open outstanding) =
+    codes "unfinished: " ++ decimal events ++ codes " events, and "
+    ++ outstanding_words outstanding ++ codes " at the end"
 
 -- what is said behind the name of a side file that tells nothing
 abbrev pub fault_text : SideFault → List ℕ
@@ -100,7 +104,7 @@ fault_text (fault.Shut error) = codes ": " ++ open_text error
 
 -- what is said of the trace of this file
 abbrev pub report_text : List ℕ → Report → List ℕ
-report_text name (Told verdict) = verdict_text verdict
+report_text name (Told verdict outstanding) = verdict_text verdict
 report_text name (Shut error) = open_text error
 report_text name (Compressed packing) =
     advice_of packing ++ name ++ codes " | acetool check -"
@@ -121,7 +125,13 @@ name_text side name report = if is_input name then [] else name ++ codes ": "
 abbrev pub shown_name : List ℕ → List ℕ
 shown_name name = if is_input name then codes "FILE" else name
 
--- the line of a trace, or where its side file tells nothing of that
+-- the note behind the line of a trace at whose end transactions are outstanding
+abbrev pub note_of : Report → List ℕ
+note_of (Told verdict outstanding) = outstanding_note outstanding
+note_of report = []
+
+-- the line of a trace, or where its side file tells nothing of that, and its note
 abbrev pub line_of : SideAsked → List ℕ → Report → List ℕ
 line_of side name report =
     name_text side name report ++ report_text (shown_name name) report ++ codes "\n"
+    ++ note_of report

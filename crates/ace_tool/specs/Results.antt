@@ -5,8 +5,6 @@ use Rattle.ace_batch.specs.declared.outcome.Outcome.{Outcome}
 use Rattle.ace_batch.specs.declared.outcome.Outcome.TheVariants as outcome
 use Rattle.ace_explanation.specs.Refusals.{wrong_sentence}
 use Rattle.ace_explanation.specs.Texts.{explanation_text}
-use Rattle.ace_explanation.specs.Told.{IsToldAs}
-use Rattle.ace_explanation.specs.declared.explanation.Explanation.{Explanation}
 use Rattle.ace_explanation.specs.declared.explanation.Explanation.TheVariants.{Refused, Malformed}
 use Rattle.ace_grammar.specs.Reasons.{number_of_reason}
 use Rattle.ace_malformed.specs.Sentences.{wrong_sentence as malformed_sentence}
@@ -42,7 +40,7 @@ outcome_of_fault fault.NoMemory = outcome.NoMemory
 outcome_of_fault (fault.Shut error) = outcome.Unreadable
 
 abbrev pub outcome_of : Report → Outcome
-outcome_of (Told v) = outcome_of_verdict v
+outcome_of (Told v outstanding) = outcome_of_verdict v
 outcome_of (Shut error) = outcome.Unreadable
 outcome_of (Compressed packing) = outcome.Unreadable
 outcome_of (Unfinished events gap) = outcome.Unfinished
@@ -50,10 +48,15 @@ outcome_of (BadSide f) = outcome_of_fault f
 
 -- how many events were judged
 abbrev pub events_of : Report → ℕ
-events_of (Told (verdict.Accepted events)) = events
-events_of (Told (verdict.Refused index rule)) = index
+events_of (Told (verdict.Accepted events) outstanding) = events
+events_of (Told (verdict.Refused index rule) outstanding) = index
 events_of (Unfinished events gap) = events
 events_of report = 0
+
+-- how many transactions are outstanding at the end of an accepted trace
+abbrev pub outstanding_of : Report → Option ℕ
+outstanding_of (Told (verdict.Accepted events) outstanding) = Some outstanding
+outstanding_of report = None
 
 -- the line that is refused or malformed; the lines of the header are 1 and 2
 abbrev pub line_of_result : Finding → Option ℕ
@@ -63,10 +66,10 @@ line_of_result found = None
 
 -- what traces that failed alike have in common
 abbrev pub signature_of_report : Report → List ℕ
-signature_of_report (Told (verdict.Malformed line reason)) =
+signature_of_report (Told (verdict.Malformed line reason) outstanding) =
     codes "F" ++ decimal (number_of_reason reason)
-signature_of_report (Told (verdict.Accepted events)) = []
-signature_of_report (Told v) = report_text [] (Told v)
+signature_of_report (Told (verdict.Accepted events) outstanding) = []
+signature_of_report (Told v outstanding) = report_text [] (Told v outstanding)
 signature_of_report (Shut error) = codes "cannot be opened"
 signature_of_report (Compressed packing) = codes "compressed"
 signature_of_report (Unfinished events gap) = codes "unfinished"
@@ -101,10 +104,10 @@ message_of name found report = message_of_report name report
 
 -- All that is told of it: of a trace that is refused or malformed what `explain` tells, if there is memory, and of another its message.
 abbrev pub IsText : List ℕ → Finding → Report → List ℕ → Type 0
-IsText name (finding.Explained (Refused r)) report text = (told : Explanation)
-    × IsToldAs (Refused r) told × (text ≡ explanation_text name false told)
-IsText name (finding.Explained (Malformed bad)) report text = (told : Explanation)
-    × IsToldAs (Malformed bad) told × (text ≡ explanation_text name false told)
+IsText name (finding.Explained (Refused r)) report text =
+    text ≡ explanation_text name false (Refused r)
+IsText name (finding.Explained (Malformed bad)) report text =
+    text ≡ explanation_text name false (Malformed bad)
 IsText name found report text = text ≡ message_of name found report
 
 -- The entry of a trace, by its name and what is told of it.
@@ -112,6 +115,7 @@ pub record IsEntryOf (name : List ℕ) (found : Finding) (report : Report) (e : 
   pub path : string_bytes e.path ≡ name
   pub outcome : e.outcome ≡ outcome_of report
   pub events : e.events ≡ events_of report
+  pub outstanding : e.outstanding ≡ outstanding_of report
   pub line : e.line ≡ line_of_result found
   pub signature : e.signature.items ≡ signature_of found report
   pub message : e.message.items ≡ message_of name found report

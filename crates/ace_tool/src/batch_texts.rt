@@ -10,9 +10,11 @@ pub(crate) fn batch_help() -> &'static str
     ensures { result.now ≡ batch_help }
 {
     "usage: acetool batch [OPTION].. [--] FILE..
+       acetool batch --merge FILE..
 
 Checks each trace as `acetool check` does, tells a line for each in their order, and a summary with
-the failures grouped by the broken clause or the reason, the most frequent first.
+the failures grouped by the broken clause or the reason, the most frequent first. With --merge it
+puts the JSON of all parts of a list together, and tells the summary of the whole.
 
   --list FILE      more traces, a path a line; `-` is standard input
   --jobs N         threads that share the work; else as many as there are processors
@@ -25,6 +27,7 @@ the failures grouped by the broken clause or the reason, the most frequent first
   --no-side        no side files are read
   --require-end    a trace without a side file is unfinished
   --allow-cut      a recording that was cut on demand is whole
+  --drained        a trace that ends with transactions outstanding is unfinished
 
 status: 0 each trace was accepted, and none is unfinished; else the first that came of 1 refused,
 3 malformed, 8 unfinished, 6 a limit, 4 unreadable, 7 no memory; 5 an output failed; 2 these words

@@ -11,21 +11,25 @@ use crate::folder::Folder;
 use crate::gap::judge;
 use crate::line::give_line;
 use crate::read_trace::read_named;
-use crate::report::Report;
+use crate::report::{Accepted, Report};
 use crate::seen::Seen;
 use crate::side::find_side;
 use ace_io::{Failed, Sink, Source};
 use ace_verdict::Verdict;
 use std::alloc::Global;
 
-/// How many events an accepted trace has.
-pub(crate) fn accepted_of(report: &Report) -> Option<u64>
+/// The accepted trace of which this is told.
+pub(crate) fn accepted_of(report: &Report) -> Option<Accepted>
     ensures { result ≡ accepted_of report.now }
 {
     match report {
         Report::Told {
             verdict: Verdict::Accepted { events },
-        } => Some(*events),
+            outstanding,
+        } => Some(Accepted {
+            events: *events,
+            outstanding: *outstanding,
+        }),
         _ => None,
     }
 }
@@ -43,9 +47,9 @@ fn check_trace<F: Folder, I: Source>(
 {
     let told = read_named(alloc, files, input, name, options.limits);
     match accepted_of(&told) {
-        Some(events) => judge(
+        Some(accepted) => judge(
             options.ends,
-            events,
+            accepted,
             find_side(alloc, files, options.side, name),
         ),
         None => told,

@@ -11,6 +11,8 @@ pub struct EndRules {
     pub require_end: bool,
     /// One that was cut on demand does.
     pub allow_cut: bool,
+    /// One at whose end transactions are outstanding doesn't.
+    pub drained: bool,
 }
 
 /// Where the side file of a trace is.

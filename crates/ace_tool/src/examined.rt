@@ -90,6 +90,7 @@ fn report_of(finding: Finding) -> Report
     match finding {
         Finding::Explained { explanation } => Report::Told {
             verdict: explanation.verdict(),
+            outstanding: explanation.outstanding(),
         },
         Finding::Shut { error } => Report::Shut { error },
         Finding::Compressed { packing } => Report::Compressed { packing },
@@ -108,9 +109,9 @@ fn report_beside<F: Folder>(
         result }
 {
     match accepted_of(&told) {
-        Some(events) => judge(
+        Some(accepted) => judge(
             options.ends,
-            events,
+            accepted,
             find_side(alloc, files, options.side, name),
         ),
         None => told,

@@ -20,7 +20,7 @@ use ace_io::{Failed, Sink, Source};
 use std::alloc::Global;
 
 /// The name by which a trace is told of.
-fn told_name<'a>(name: &'a str) -> &'a str
+pub(crate) fn told_name<'a>(name: &'a str) -> &'a str
     ensures { result.now ≡ told_name name.entry.now }
 {
     if is_input(name) { "<stdin>" } else { name }
@@ -28,7 +28,7 @@ fn told_name<'a>(name: &'a str) -> &'a str
 
 /// Gives five pieces as one text.
 #[tactic(auto, using(crate::proofs::Lines::lines))]
-fn give_five<'a, K: Sink>(
+pub(crate) fn give_five<'a, K: Sink>(
     out: &mut K,
     name: &'a str,
     colon: &'a str,
@@ -46,7 +46,7 @@ fn give_five<'a, K: Sink>(
 }
 
 /// Tells that the file of this name could not be opened.
-fn tell_shut<K: Sink>(out: &mut K, name: &str, error: OpenErr) -> Result<(), Failed>
+pub(crate) fn tell_shut<K: Sink>(out: &mut K, name: &str, error: OpenErr) -> Result<(), Failed>
     ensures whole { OnOk result (Appends (K.held out.old) (K.held out.new)
         (shut_line name.now error)) }
     ensures part { OnErr result (AppendsPart (K.held out.old) (K.held out.new)
@@ -75,7 +75,7 @@ fn tell_packed<K: Sink>(out: &mut K, name: &str, packing: Packing) -> Result<(),
 }
 
 /// Tells the explanation of the trace of this name.
-fn tell_explanation<K: Sink>(
+pub(crate) fn tell_explanation<K: Sink>(
     alloc: Global,
     out: &mut K,
     call: &ExplainCall<'_>,

@@ -31,7 +31,7 @@ pub enum Finding {
 }
 
 /// As much as can be counted.
-fn no_limits() -> Limits
+pub(crate) fn no_limits() -> Limits
     ensures { result ≡ no_limits }
 {
     Limits {

@@ -1,9 +1,9 @@
 // Whether the recording of an accepted trace is whole.
 ghost use Rattle.std.specs.Prelude.{◌≡◌};
-ghost use Rattle.ace_tool.specs.Gaps.{gap_at, gap_without, judged, report_with};
+ghost use Rattle.ace_tool.specs.Gaps.{gap_at, gap_open, gap_without, judged, report_by, report_with};
 
 use crate::check_options::EndRules;
-use crate::report::Report;
+use crate::report::{Accepted, Report};
 use crate::side::SideFound;
 use ace_side::SideEnd;
 use ace_verdict::Verdict;
@@ -32,6 +32,10 @@ pub enum Gap {
     /// The recording was cut after so many events.
     Cut {
         count: u64,
+    },
+    /// So many transactions are outstanding at its end, and none may be.
+    Open {
+        outstanding: u64,
     },
 }
 
@@ -66,25 +70,50 @@ fn gap_without(ends: EndRules) -> Option<Gap>
     }
 }
 
-/// What is told of an accepted trace that has this gap or none.
-fn report_with(events: u64, gap: Option<Gap>) -> Report
-    ensures { result ≡ report_with events gap }
+/// The gap of a trace at whose end so many transactions are outstanding, if none may be.
+fn gap_open(ends: EndRules, outstanding: u64) -> Option<Gap>
+    ensures { result ≡ gap_open ends outstanding }
 {
+    if ends.drained && outstanding != 0 {
+        Some(Gap::Open { outstanding })
+    } else {
+        None
+    }
+}
+
+/// What is told of an accepted trace that has this gap or none.
+fn report_with(accepted: Accepted, gap: Option<Gap>) -> Report
+    ensures { result ≡ report_with accepted gap }
+{
+    let events = accepted.events;
     match gap {
         Some(gap) => Report::Unfinished { events, gap },
         None => Report::Told {
             verdict: Verdict::Accepted { events },
+            outstanding: accepted.outstanding,
         },
     }
 }
 
-/// What is told of an accepted trace of so many events, by what is found of its side file.
-pub(crate) fn judge(ends: EndRules, events: u64, found: SideFound) -> Report
-    ensures { result ≡ judged ends events found }
+/// What is told of an accepted trace whose side file tells of this gap or of none.
+fn report_by(ends: EndRules, accepted: Accepted, gap: Option<Gap>) -> Report
+    ensures { result ≡ report_by ends accepted gap }
+{
+    match gap {
+        Some(gap) => report_with(accepted, Some(gap)),
+        None => report_with(accepted, gap_open(ends, accepted.outstanding)),
+    }
+}
+
+/// What is told of an accepted trace, by what is found of its side file.
+pub(crate) fn judge(ends: EndRules, accepted: Accepted, found: SideFound) -> Report
+    ensures { result ≡ judged ends accepted found }
 {
     match found {
-        SideFound::Absent => report_with(events, gap_without(ends)),
-        SideFound::Ends { end, note } => report_with(events, gap_at(ends, events, end, note)),
+        SideFound::Absent => report_by(ends, accepted, gap_without(ends)),
+        SideFound::Ends { end, note } => {
+            report_by(ends, accepted, gap_at(ends, accepted.events, end, note))
+        }
         SideFound::Faulty { fault } => Report::BadSide { fault },
     }
 }

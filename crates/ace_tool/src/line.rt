@@ -3,7 +3,7 @@ ghost use Rattle.std.specs.Prelude.{◌≡◌, ◌++◌, [], codes, OnOk, OnErr}
 ghost use Rattle.std.specs.Io.KnownBytes.{Appends};
 ghost use Rattle.ace_io.specs.Faults.{HasCause};
 ghost use Rattle.ace_convert.specs.Output.{AppendsPart};
-ghost use Rattle.ace_tool.specs.Reports.{line_of, name_text, report_text, shown_name, side_name};
+ghost use Rattle.ace_tool.specs.Reports.{line_of, name_text, note_of, report_text, shown_name, side_name};
 ghost use Rattle.ace_tool.specs.Told.{side_of};
 
 use crate::check_options::SideChoice;
@@ -13,6 +13,7 @@ use crate::report::{Report, open_text, verdict_text};
 use crate::side_text::{fault_text, gap_text};
 use ace_call::give_pieces;
 use ace_io::{Failed, Sink};
+use ace_outstanding::outstanding_note;
 use arrayvec::ArrayString;
 
 /// What is said of a trace: a text that is made for it, and three that are there.
@@ -24,9 +25,9 @@ pub(crate) struct Said<'a> {
     pub(crate) back: &'a str,
 }
 
-/// Gives six pieces and a line feed as one text.
+/// Gives six pieces, a line feed and a note as one text.
 #[tactic(auto, using(crate::proofs::Lines::lines))]
-fn give_six<'a, K: Sink>(
+fn give_seven<'a, K: Sink>(
     out: &mut K,
     file: &'a str,
     colon: &'a str,
@@ -34,16 +35,17 @@ fn give_six<'a, K: Sink>(
     front: &'a str,
     name: &'a str,
     back: &'a str,
+    note: &'a str,
 ) -> Result<(), Failed>
     ensures whole { OnOk result (Appends (K.held out.old) (K.held out.new)
         ((file.entry.now ++ colon.entry.now) ++ (made.entry.now ++ front.entry.now
-        ++ name.entry.now ++ back.entry.now) ++ codes "\n")) }
+        ++ name.entry.now ++ back.entry.now) ++ codes "\n" ++ note.entry.now)) }
     ensures part { OnErr result (AppendsPart (K.held out.old) (K.held out.new)
         ((file.entry.now ++ colon.entry.now) ++ (made.entry.now ++ front.entry.now
-        ++ name.entry.now ++ back.entry.now) ++ codes "\n")) }
+        ++ name.entry.now ++ back.entry.now) ++ codes "\n" ++ note.entry.now)) }
     ensures cause { HasCause (K.faults out.old) (K.faults out.new) result }
 {
-    give_pieces(out, &[file, colon, made, front, name, back, "\n"])
+    give_pieces(out, &[file, colon, made, front, name, back, "\n", note])
 }
 
 /// What is said of the trace of the file of this name.
@@ -52,7 +54,7 @@ pub(crate) fn said_of<'a>(name: &'a str, report: Report) -> Said<'a>
         ≡ report_text name.entry.now report }
 {
     match report {
-        Report::Told { verdict } => Said {
+        Report::Told { verdict, .. } => Said {
             made: verdict_text(verdict),
             front: "",
             name: "",
@@ -119,7 +121,17 @@ pub(crate) fn shown_name<'a>(name: &'a str) -> &'a str
     if is_input(name) { "FILE" } else { name }
 }
 
-/// Gives the line of the trace of this name.
+/// The note behind the line of a trace.
+fn note_of(report: &Report) -> ArrayString<96>
+    ensures { result.bytes ≡ note_of report.now }
+{
+    match report {
+        Report::Told { outstanding, .. } => outstanding_note(*outstanding),
+        _ => ArrayString::new(),
+    }
+}
+
+/// Gives the line of the trace of this name, and its note.
 ///
 /// # Errors
 ///
@@ -138,7 +150,8 @@ pub(crate) fn give_line<K: Sink>(
 {
     let (file, colon) = name_pieces(side, name, report);
     let said = said_of(shown_name(name), *report);
-    give_six(
+    let note = note_of(report);
+    give_seven(
         out,
         file,
         colon,
@@ -146,5 +159,6 @@ pub(crate) fn give_line<K: Sink>(
         said.front,
         said.name,
         said.back,
+        note.as_str(),
     )
 }

@@ -39,7 +39,7 @@ fn take_some<S: Source>(source: &mut S, bytes: &mut Vec<u8>) -> Result<bool, Lis
 
 /// All bytes that the source has left. More than can be counted want more memory than there is.
 #[tactic(auto, using(crate::proofs::ListReading::taking))]
-fn take_all<S: Source>(alloc: Global, source: &mut S) -> Result<Vec<u8>, ListErr>
+pub(crate) fn take_all<S: Source>(alloc: Global, source: &mut S) -> Result<Vec<u8>, ListErr>
     ensures { IfOk result (λ bytes. IsWhole (S.left source.old) bytes.items) }
 {
     let mut bytes = Vec::new(alloc);
@@ -65,6 +65,21 @@ fn read_text<S: Source>(alloc: Global, source: &mut S) -> Result<String, ListErr
     }
 }
 
+/// The text of the file of this name.
+///
+/// # Errors
+///
+/// Why it could not be had.
+pub(crate) fn read_file<F: Folder>(alloc: Global, files: &F, name: &str) -> Result<String, ListErr>
+    ensures { IfOk result (λ text. IsWhole (told_of (F.holds files.now name.now))
+        (string_bytes text)) }
+{
+    match files.open(name) {
+        Ok(mut file) => read_text(alloc, &mut file),
+        Err(error) => Err(ListErr::Shut { error }),
+    }
+}
+
 /// The text of the file of this name, or of standard input.
 ///
 /// # Errors
@@ -82,8 +97,5 @@ pub(crate) fn read_list<F: Folder, I: Source>(
     if is_input(name) {
         return read_text(alloc, input);
     }
-    match files.open(name) {
-        Ok(mut file) => read_text(alloc, &mut file),
-        Err(error) => Err(ListErr::Shut { error }),
-    }
+    read_file(alloc, files, name)
 }

@@ -21,6 +21,8 @@ pub(crate) enum Flag {
     RequireEnd,
     /// A recording that was cut on demand is whole.
     AllowCut,
+    /// A trace that ends with transactions outstanding is unfinished.
+    Drained,
 }
 
 /// An option that has a value.
@@ -54,6 +56,7 @@ pub(crate) fn flag_of(word: &str) -> Option<Flag>
         "--no-side" => Some(Flag::NoSide),
         "--require-end" => Some(Flag::RequireEnd),
         "--allow-cut" => Some(Flag::AllowCut),
+        "--drained" => Some(Flag::Drained),
         _ => None,
     }
 }
@@ -108,7 +111,7 @@ pub(crate) fn keep_once<'a>(kept: &mut Option<&'a str>, value: &'a str) -> bool
 }
 
 /// The limit that the word of an option says, up to the most, if it is right.
-fn limit_of(word: Option<&str>, most: u64) -> Option<u64>
+pub(crate) fn limit_of(word: Option<&str>, most: u64) -> Option<u64>
     ensures value { MatchOption result
         ((limit : ℕ) → ¬ IsLimit most (option_map (λ w. w.now) word.entry) limit)
         (IsLimit most (option_map (λ w. w.now) word.entry)) }
@@ -154,6 +157,7 @@ impl<'a> GivenOptions<'a> {
             ends: EndRules {
                 require_end: false,
                 allow_cut: false,
+                drained: false,
             },
         }
     }
@@ -166,6 +170,7 @@ impl<'a> GivenOptions<'a> {
             Flag::NoSide => self.no_side = true,
             Flag::RequireEnd => self.ends.require_end = true,
             Flag::AllowCut => self.ends.allow_cut = true,
+            Flag::Drained => self.ends.drained = true,
         }
     }
 

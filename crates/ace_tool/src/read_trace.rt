@@ -3,6 +3,7 @@ ghost use Rattle.std.specs.Prelude.{◌≡◌, ◌≤◌, ℕ, List, Option, IfS
 ghost use Rattle.ace_grammar.specs.Reading.{most_counted};
 ghost use Rattle.ace_io.specs.Faults.{Rose};
 ghost use Rattle.ace_io.specs.Line.{in_front};
+ghost use Rattle.ace_verdict.specs.Ended.{IsOutstanding};
 ghost use Rattle.ace_verdict.specs.Verdict.{IsVerdictWithin};
 ghost use Rattle.ace_verdict.specs.declared.verdict.Verdict.TheVariants.{ReadFault};
 ghost use Rattle.ace_tool.specs.declared.report.Report.TheVariants.{Told};
@@ -16,25 +17,39 @@ use crate::packing::packing_of;
 use crate::peeked::{FRONT, Peeked, take_front};
 use crate::report::Report;
 use ace_io::Source;
-use ace_verdict::{Limits, Verdict, verdict_within};
+use ace_verdict::{Ended, Limits, Verdict, ended_within};
 use arrayvec::ArrayVec;
 use std::alloc::Global;
 
-/// The verdict on the trace that the source gives, of which these first bytes were taken.
-fn verdict_behind<S: Source>(
+/// The verdict on the trace that the source gives, of which these first bytes were taken, and what is
+/// outstanding at its end.
+fn ended_behind<S: Source>(
     alloc: Global,
     source: &mut S,
     front: ArrayVec<u8, FRONT>,
     limits: Limits,
-) -> Verdict
+) -> Ended
     requires { limits.events ≤ most_counted }
     ensures verdict { IfSome (in_front front.items (S.left source.old))
-        (λ bytes. IsVerdictWithin limits bytes result) }
+        (λ bytes. IsVerdictWithin limits bytes result.verdict) }
+    ensures outstanding { IfSome (in_front front.items (S.left source.old))
+        (λ bytes. IsOutstanding bytes result.verdict result.outstanding) }
     // Where it is a read fault, the source failed.
-    ensures fault { result ≡ ReadFault → (after : S) × Rose (S.faults source.old) (S.faults after) }
+    ensures fault { result.verdict ≡ ReadFault
+        → (after : S) × Rose (S.faults source.old) (S.faults after) }
 {
     let mut peeked = Peeked::new(source, front);
-    verdict_within(alloc, &mut peeked, limits)
+    ended_within(alloc, &mut peeked, limits)
+}
+
+/// That it ended so is told of a trace.
+fn told_of(ended: Ended) -> Report
+    ensures { result ≡ Told ended.verdict ended.outstanding }
+{
+    Report::Told {
+        verdict: ended.verdict,
+        outstanding: ended.outstanding,
+    }
 }
 
 /// What is to be told of the trace that the source gives.
@@ -42,18 +57,17 @@ fn verdict_behind<S: Source>(
 fn read_trace<S: Source>(alloc: Global, source: &mut S, limits: Limits) -> Report
     requires { limits.events ≤ most_counted }
     ensures read { IfSome (S.left source.old) (λ bytes. IsRead limits bytes result) }
-    ensures fault { result ≡ Told ReadFault → (after : S)
+    ensures fault { (outstanding : ℕ) → result ≡ Told ReadFault outstanding → (after : S)
         × Rose (S.faults source.old) (S.faults after) }
 {
     match take_front(source) {
         Ok(front) => match packing_of(front.as_slice()) {
             Some(packing) => Report::Compressed { packing },
-            None => Report::Told {
-                verdict: verdict_behind(alloc, source, front, limits),
-            },
+            None => told_of(ended_behind(alloc, source, front, limits)),
         },
         Err(_) => Report::Told {
             verdict: Verdict::ReadFault,
+            outstanding: 0,
         },
     }
 }

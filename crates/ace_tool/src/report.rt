@@ -10,11 +10,20 @@ use ace_verdict::Verdict;
 use arrayvec::ArrayString;
 use itoa::Buffer;
 
+/// An accepted trace.
+#[derive(Clone, Copy)]
+pub struct Accepted {
+    pub events: u64,
+    /// How many transactions are outstanding at its end.
+    pub outstanding: u64,
+}
+
 /// What is told of a trace.
 #[derive(Clone, Copy)]
 pub enum Report {
-    /// The verdict on it.
-    Told { verdict: Verdict },
+    /// The verdict on it, and how many transactions are outstanding at the end of an accepted trace;
+    /// else 0.
+    Told { verdict: Verdict, outstanding: u64 },
     /// Its file could not be opened.
     Shut { error: OpenErr },
     /// Its file is compressed.
@@ -55,7 +64,7 @@ pub(crate) fn status_of(report: &Report) -> u8
     ensures { result ≡ status_of report.now }
 {
     match report {
-        Report::Told { verdict } => status_of_verdict(*verdict),
+        Report::Told { verdict, .. } => status_of_verdict(*verdict),
         Report::Shut { .. } | Report::Compressed { .. } => 4,
         Report::Unfinished { .. } => 8,
         Report::BadSide { fault } => status_of_fault(*fault),

@@ -1,9 +1,5 @@
 // The entry of a trace in a list of results.
-ghost use Rattle.std.specs.Prelude.{◌≡◌, false, IfOk};
-ghost use Rattle.ace_explanation.specs.Explanations.{HasAnyLine};
-ghost use Rattle.ace_explanation.specs.Texts.{explanation_text};
-ghost use Rattle.ace_explanation.specs.Told.{IsToldAs};
-ghost use Rattle.ace_explanation.specs.declared.explanation.Explanation.{Explanation as Explained};
+ghost use Rattle.std.specs.Prelude.{◌≡◌, IfOk};
 ghost use Rattle.ace_tool.specs.Explaining.{MayBeTold};
 ghost use Rattle.ace_tool.specs.Results.{IsEntryOf, IsResult, IsText, message_of, signature_of};
 ghost use Rattle.ace_tool.specs.Told.{options_of};
@@ -13,14 +9,14 @@ use crate::examined::{Examined, examine_file};
 use crate::finding::Finding;
 use crate::folder::Folder;
 use crate::report::Report;
-use crate::result_parts::{events_of, line_of_result, outcome_of, push_message, push_signature};
+use crate::result_parts::{
+    events_of, line_of_result, outcome_of, outstanding_of, push_message, push_signature,
+};
 use ace_batch::Entry;
-use ace_explanation::{Explanation, tell};
-use ace_io::{MemSink, NoMemory};
+use ace_explanation::{Explanation, refusal_text};
+use ace_io::NoMemory;
+use ace_malformed::bad_line_text;
 use std::alloc::Global;
-
-/// Room for what is told of a trace beside its name.
-const ROOM: usize = 1024;
 
 /// What traces that failed alike have in common.
 fn signature_of(alloc: Global, finding: &Finding, report: &Report) -> Result<Vec<u8>, NoMemory>
@@ -45,30 +41,6 @@ fn message_of(
     Ok(text)
 }
 
-/// The bytes again.
-fn copy_of(alloc: Global, bytes: &[u8]) -> Result<Vec<u8>, NoMemory>
-    ensures { IfOk result (λ copy. copy.items ≡ bytes.now) }
-{
-    match Vec::from_slice(alloc, bytes) {
-        Ok(copy) => Ok(copy),
-        Err(_) => Err(NoMemory),
-    }
-}
-
-/// What `explain` tells of the trace of this name.
-fn explained_text(alloc: Global, name: &str, explanation: Explanation) -> Result<Vec<u8>, NoMemory>
-    requires { HasAnyLine explanation }
-    ensures { IfOk result (λ text. (told : Explained) × IsToldAs explanation told
-        × (text.items ≡ explanation_text name.now false told)) }
-{
-    let room = name.len().saturating_add(ROOM);
-    let mut sink = MemSink::new(alloc, room, &[])?;
-    match tell(alloc, &mut sink, name, false, explanation) {
-        Ok(_) => copy_of(alloc, sink.bytes()),
-        Err(_) => Err(NoMemory),
-    }
-}
-
 /// All that is told of the trace.
 fn text_of(
     alloc: Global,
@@ -81,9 +53,10 @@ fn text_of(
 {
     match finding {
         Finding::Explained { explanation } => match explanation {
-            Explanation::Refused { .. } | Explanation::Malformed { .. } => {
-                explained_text(alloc, name, *explanation)
+            Explanation::Refused { refusal } => {
+                refusal_text(alloc, name.as_bytes(), false, refusal)
             }
+            Explanation::Malformed { bad } => bad_line_text(alloc, name.as_bytes(), false, bad),
             _ => message_of(alloc, name, finding, report),
         },
         _ => message_of(alloc, name, finding, report),
@@ -107,6 +80,7 @@ fn entry_of(alloc: Global, name: &str, examined: Examined) -> Result<Entry, NoMe
         path,
         outcome: outcome_of(&report),
         events: events_of(&report),
+        outstanding: outstanding_of(&report),
         line: line_of_result(&finding),
         signature,
         message,

@@ -3,7 +3,7 @@ ghost use Rattle.std.specs.Prelude.{◌≡◌, ◌++◌, decimal, OnOk};
 ghost use Rattle.ace_explanation.specs.Refusals.{wrong_sentence};
 ghost use Rattle.ace_tool.specs.Explaining.{MayBeTold};
 ghost use Rattle.ace_tool.specs.Reports.{report_text};
-ghost use Rattle.ace_tool.specs.Results.{events_of, line_of_result, message_of, message_of_report, outcome_of, outcome_of_fault, outcome_of_verdict, side_line, side_line_words, side_words, signature_of, signature_of_report};
+ghost use Rattle.ace_tool.specs.Results.{events_of, line_of_result, message_of, message_of_report, outcome_of, outcome_of_fault, outcome_of_verdict, outstanding_of, side_line, side_line_words, side_words, signature_of, signature_of_report};
 
 use crate::finding::Finding;
 use crate::line::said_of;
@@ -49,7 +49,7 @@ pub(crate) fn outcome_of(report: &Report) -> Outcome
     ensures { result ≡ outcome_of report.now }
 {
     match report {
-        Report::Told { verdict } => outcome_of_verdict(*verdict),
+        Report::Told { verdict, .. } => outcome_of_verdict(*verdict),
         Report::Shut { .. } | Report::Compressed { .. } => Outcome::Unreadable,
         Report::Unfinished { .. } => Outcome::Unfinished,
         Report::BadSide { fault } => outcome_of_fault(*fault),
@@ -63,12 +63,27 @@ pub(crate) fn events_of(report: &Report) -> u64
     match report {
         Report::Told {
             verdict: Verdict::Accepted { events },
+            ..
         } => *events,
         Report::Told {
             verdict: Verdict::Refused { index, .. },
+            ..
         } => *index,
         Report::Unfinished { events, .. } => *events,
         _ => 0,
+    }
+}
+
+/// How many transactions are outstanding at the end of an accepted trace.
+pub(crate) fn outstanding_of(report: &Report) -> Option<u64>
+    ensures { result ≡ outstanding_of report.now }
+{
+    match report {
+        Report::Told {
+            verdict: Verdict::Accepted { .. },
+            outstanding,
+        } => Some(*outstanding),
+        _ => None,
     }
 }
 
@@ -125,9 +140,11 @@ fn push_signature_of_report(text: &mut Vec<u8>, report: &Report) -> Result<(), N
     match report {
         Report::Told {
             verdict: Verdict::Malformed { reason, .. },
+            ..
         } => push_reason(text, "F", reason.number()),
         Report::Told {
             verdict: Verdict::Accepted { .. },
+            ..
         } => Ok(()),
         Report::Told { .. } => push_report(text, "", report),
         Report::Shut { .. } => push(text, "cannot be opened"),
@@ -211,7 +228,7 @@ fn push_message_of_report(text: &mut Vec<u8>, name: &str, report: &Report) -> Re
 
 /// What is wrong where the clause is broken.
 #[tactic(auto, unfolding(ace_explanation::specs::Refusals::wrong_sentence))]
-fn wrong_sentence(rule: u8, letter: Letter) -> &'static [u8]
+pub(crate) fn wrong_sentence(rule: u8, letter: Letter) -> &'static [u8]
     ensures { result.now ≡ wrong_sentence rule letter }
 {
     wrong_with(ClauseName { rule, letter })

@@ -1,11 +1,12 @@
 // What is said of the recording of a trace, and of its side file.
 ghost use Rattle.std.specs.Prelude.{◌≡◌, ◌++◌, ◌≤◌, ℕ, length, codes, decimal};
 ghost use Rattle.ace_tool.specs.Reports.{fault_text, gap_text};
-ghost use Rattle.ace_tool.specs.declared.gap.Gap.TheVariants.{Stopped};
+ghost use Rattle.ace_tool.specs.declared.gap.Gap.TheVariants.{Open, Stopped};
 
 use crate::gap::Gap;
 use crate::report::open_text;
 use crate::side::SideFault;
+use ace_outstanding::outstanding_words;
 use arrayvec::ArrayString;
 use itoa::Buffer;
 
@@ -55,6 +56,17 @@ fn stopped_text(count: u64, note: Option<ArrayString<256>>) -> ArrayString<384>
     }
 }
 
+/// That so many transactions are outstanding at the end.
+fn outstanding_text(events: u64, outstanding: u64) -> ArrayString<384>
+    ensures { result.bytes ≡ gap_text events (Open outstanding) }
+{
+    let mut text = count_text("unfinished: ", events, " events, and ");
+    let words = outstanding_words(outstanding);
+    text.push_str(words.as_str());
+    text.push_str(" at the end");
+    text
+}
+
 /// That a recording of so many events isn't whole, and why.
 pub(crate) fn gap_text(events: u64, gap: Gap) -> ArrayString<384>
     ensures { result.bytes ≡ gap_text events gap }
@@ -74,6 +86,7 @@ pub(crate) fn gap_text(events: u64, gap: Gap) -> ArrayString<384>
         }
         Gap::Stopped { count, note } => stopped_text(count, note),
         Gap::Cut { count } => count_text("unfinished: cut after ", count, " events on demand"),
+        Gap::Open { outstanding } => outstanding_text(events, outstanding),
     }
 }
 

@@ -12,7 +12,9 @@ Checks traces of AMBA ACE. The verdict is always that of `ace check`.
 
   check [FILE]..   the verdict on each trace
   batch FILE..     the same of many traces, in threads, with a summary and files for a CI
+  cover FILE..     what accepted traces exercised, and what none of them did
   explain [FILE]   why a trace is refused: the event, the rule, and the clause of it that is broken
+  chart [FILE]     a sequence chart of one line of a trace, as SVG
   rule [NAME]..    what a rule asks: K12 with its clauses, or K12d; without a name the rules
 
 FILE is a trace; `-`, or no file, is standard input. `acetool COMMAND --help` tells more, and
@@ -28,7 +30,8 @@ pub(crate) fn check_help() -> &'static str
 
 Says of each trace what `ace check` says of it, in a line FILE: VERDICT, and of standard input the
 verdict alone. It has no limits but those that are asked for. Where the side file of an accepted
-trace says that the recording is broken off, the trace is unfinished.
+trace says that the recording is broken off, the trace is unfinished. A note tells how many
+transactions are outstanding at the end of an accepted trace, if any are.
 
   --most-events N  a trace may have N events at most
   --most-lines N   a trace may name N lines at most
@@ -36,6 +39,7 @@ trace says that the recording is broken off, the trace is unfinished.
   --no-side        no side file is read
   --require-end    a trace without a side file is unfinished
   --allow-cut      a recording that was cut on demand is whole
+  --drained        a trace that ends with transactions outstanding is unfinished
 
 status: 0 each trace was accepted, and none is unfinished; else the first that came of 1 refused,
 3 malformed, 8 unfinished, 6 a limit, 4 unreadable, 7 no memory; 5 an output failed; 2 these words
@@ -66,8 +70,9 @@ pub(crate) fn rule_help() -> &'static str
 {
     "usage: acetool rule [NAME]..
 
-Tells each rule that is named, as K12, with its clauses: where each is kept, and what is wrong where
-it is broken. K12d names one clause of it. Without a name it tells what the rules are called.
+Tells each rule that is named, as K12, with its clauses, where each is kept and what is wrong where
+it is broken, and where to look first then. K12d names one clause of it. Without a name it tells
+what the rules are called.
 
 status: 0 it was told, 7 no memory; 5 the output failed; 2 these words are wrong
 "

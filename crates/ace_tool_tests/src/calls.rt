@@ -108,7 +108,12 @@ const LIMITS: [Row; 18] = [
         "",
     ),
     ("check --most-lines 0 line", 6, "line: limit lines\n", ""),
-    ("check --most-lines=1 line", 0, "line: accepted 1\n", ""),
+    (
+        "check --most-lines=1 line",
+        0,
+        "line: accepted 1\n  note: 1 transaction is outstanding at the end\n",
+        "",
+    ),
     (
         "check --most-lines 0 good --most-events 5",
         0,
@@ -299,6 +304,49 @@ const SIDES: [Row; 37] = [
     ("check --require-end=yes good", 2, "", CHECK),
 ];
 
+/// Traces that end with transactions outstanding.
+const OPEN: [Row; 9] = [
+    (
+        "check line good two_lines",
+        0,
+        "line: accepted 1\n  note: 1 transaction is outstanding at the end\ngood: accepted 1\ntwo_lines: accepted 2\n  note: 2 transactions are outstanding at the end\n",
+        "",
+    ),
+    (
+        "check --drained line good",
+        8,
+        "line: unfinished: 1 events, and 1 transaction is outstanding at the end\ngood: accepted 1\n",
+        "",
+    ),
+    (
+        "check two_lines --drained --drained",
+        8,
+        "two_lines: unfinished: 2 events, and 2 transactions are outstanding at the end\n",
+        "",
+    ),
+    ("check --drained good", 0, "good: accepted 1\n", ""),
+    (
+        "check --drained refused",
+        1,
+        "refused: refused event 1: K22\n",
+        "",
+    ),
+    (
+        "check --drained --require-end line",
+        8,
+        "line: unfinished: 1 events, and there is no side file\n",
+        "",
+    ),
+    ("check --drained=1 good", 2, "", CHECK),
+    (
+        "explain line",
+        0,
+        "line: accepted 1\n  note: 1 transaction is outstanding at the end\n",
+        "",
+    ),
+    ("explain --short line", 0, "line: accepted 1\n", ""),
+];
+
 /// Why traces are refused, and what rules ask.
 const TOLD: [Row; 34] = [
     ("explain", 0, "<stdin>: accepted 0\n", ""),
@@ -309,7 +357,7 @@ const TOLD: [Row; 34] = [
     (
         "explain refused",
         1,
-        "refused:3: refused event 1: K22: the port acknowledges, and no read of it is complete\n\n  RK 0 UC\n\n  K22a  a read acknowledge has a read: the port has a complete read without RK\n",
+        "refused:3: refused event 1: K22: the port acknowledges, and no read of it is complete\n\n  RK 0 UC\n\n  K22a  a read acknowledge has a read: the port has a complete read without RK\n\n  in a design    RACK is a pulse without a handshake. A register slice or a clock crossing that\n                 widens it gives two, and the interconnect sets a line free before its transaction\n                 has ended.\n",
         "",
     ),
     (
@@ -366,7 +414,7 @@ const TOLD: [Row; 34] = [
     (
         "rule K5 K5a",
         0,
-        "K5  one transaction of a port on a line\n  K5a  no transaction of this port on this line is outstanding\n        broken:  the port has a transaction of this line outstanding\nK5  one transaction of a port on a line\n  K5a  no transaction of this port on this line is outstanding\n        broken:  the port has a transaction of this line outstanding\n",
+        "K5  one transaction of a port on a line\n  K5a  no transaction of this port on this line is outstanding\n        broken:  the port has a transaction of this line outstanding\n\n  in a design    A prefetch and a demand miss for one line sit in two miss registers that do not\n                 see each other; or the line is fetched again while its WriteBack is still on the\n                 way, and the fetch is answered with the old memory.\n  in a recorder  look first at a missing RK or WK: RACK or WACK is a pulse of one cycle\nK5  one transaction of a port on a line\n  K5a  no transaction of this port on this line is outstanding\n        broken:  the port has a transaction of this line outstanding\n",
         "",
     ),
     ("rule K41", 2, "", RULE),
@@ -383,7 +431,7 @@ const TOLD: [Row; 34] = [
 ];
 
 /// The words as a program has them.
-fn owned(alloc: Global, words: &str) -> Result<Vec<String>, Fail> {
+pub(crate) fn owned(alloc: Global, words: &str) -> Result<Vec<String>, Fail> {
     let mut owned = Vec::new(alloc);
     for word in words.split_whitespace() {
         owned.push(String::from_str(alloc, word)?)?;
@@ -420,7 +468,7 @@ fn call(alloc: Global, words: &str, rooms: (usize, usize)) -> Result<Answered, F
 
 /// Whether the call has the status and leaves the texts of the row.
 fn answers(alloc: Global, row: &Row) -> Result<bool, Fail> {
-    let answered = call(alloc, row.0, (999, 999))?;
+    let answered = call(alloc, row.0, (2999, 2999))?;
     let holds = answered.status == row.1
         && answered.out.bytes() == row.2.as_bytes()
         && answered.notes.bytes().starts_with(row.3.as_bytes())
@@ -465,6 +513,14 @@ fn side_files_tell_of_broken_recordings(rt: HostRuntime) -> Result<(), Fail> {
 }
 
 #[test]
+fn notes_tell_what_is_outstanding(rt: HostRuntime) -> Result<(), Fail> {
+    for row in OPEN {
+        assert!(rt; answers(rt.alloc(), &row)?, "{}", row.0);
+    }
+    Ok(())
+}
+
+#[test]
 fn traces_are_explained_and_rules_are_told(rt: HostRuntime) -> Result<(), Fail> {
     for row in TOLD {
         assert!(rt; answers(rt.alloc(), &row)?, "{}", row.0);
@@ -480,7 +536,7 @@ fn help_goes_to_the_standard_output(rt: HostRuntime) -> Result<(), Fail> {
         ("explain --help", EXPLAIN),
         ("rule --help", RULE),
     ] {
-        let answered = call(rt.alloc(), words, (999, 0))?;
+        let answered = call(rt.alloc(), words, (1999, 0))?;
         let holds = answered.status == 0 && answered.out.bytes().starts_with(front.as_bytes());
         drop(answered);
         assert!(rt; holds, "{words}");

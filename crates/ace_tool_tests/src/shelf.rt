@@ -52,6 +52,7 @@ fn trace_of(name: &str) -> Option<&'static [u8]> {
         | "too_long"
         | "faulty" => { Some(b"ACE 1\nPORTS AA\nOP 0 0000 ok\n") }
         "line" => Some(b"ACE 1\nPORTS AA\nAR 0 0 00000040 1 1 0 0\n"),
+        "two_lines" => Some(b"ACE 1\nPORTS AA\nAR 0 0 00000040 1 1 0 0\nAR 1 0 00000080 1 1 0 0\n"),
         "refused" => Some(b"ACE 1\nPORTS A\nRK 0 UC\n"),
         "malformed" => Some(b"ACE 1\nPORTS AA\nXX 0\n"),
         "empty" => Some(b""),

@@ -1,3 +1,4 @@
+pub mod Ended
 pub mod Errors
 pub mod Follow
 pub mod Limits

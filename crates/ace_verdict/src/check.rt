@@ -4,13 +4,15 @@ ghost use Rattle.ace_grammar.specs.Errors.{LeavesNothing, TakesFront};
 ghost use Rattle.ace_grammar.specs.Reader.{source_of, unread, header_of, most_of, count_of, last_answer, lasting, given};
 ghost use Rattle.ace_grammar.specs.Reading.{most_counted};
 ghost use Rattle.ace_verdict.specs.Errors.{ends_so};
+ghost use Rattle.ace_verdict.specs.Ended.{IsOutstanding};
 ghost use Rattle.ace_verdict.specs.Follow.{HasComeTo, HasFollowed, IsReady, asked_of};
 ghost use Rattle.ace_verdict.specs.Limits.{CanFollow, trace_limits};
 ghost use Rattle.ace_verdict.specs.Progress.{HasReadCause, IsRefusal, IsStop, StandsAt};
 ghost use Rattle.ace_verdict.specs.Verdict.{IsVerdict, IsVerdictWithin, ReadsSound, ReadsSoundWithin};
 ghost use Rattle.ace_verdict.specs.declared.verdict.Verdict.TheVariants.{Accepted};
 
-use crate::follow::{Follower, events_of};
+use crate::ended::Ended;
+use crate::follow::{Follower, outstanding_of};
 use crate::limits::Limits;
 use crate::verdict::{Verdict, refusal_of};
 use ace_account::Account;
@@ -38,7 +40,6 @@ pub fn verdict_on<S: Source>(alloc: Global, input: &mut S) -> Verdict
 }
 
 /// The same, of a trace that may have so much.
-#[tactic(auto, using(crate::proofs::Followed::followed))]
 pub fn verdict_within<S: Source>(alloc: Global, input: &mut S, limits: Limits) -> Verdict
     requires counted { limits.events ≤ most_counted }
     ensures verdict { IfSome (S.left input.old) (λ bytes. IsVerdictWithin limits bytes result) }
@@ -48,11 +49,34 @@ pub fn verdict_within<S: Source>(alloc: Global, input: &mut S, limits: Limits) -
         → IfSome (S.left input.old) (ReadsSoundWithin limits.events) }
     ensures cause { HasReadCause (S.faults input.old) (S.faults input.new) result }
 {
+    ended_within(alloc, input, limits).verdict
+}
+
+/// The same, and of a trace that is accepted how many transactions are outstanding at its end.
+#[tactic(auto, using(crate::proofs::Followed::followed))]
+pub fn ended_within<S: Source>(alloc: Global, input: &mut S, limits: Limits) -> Ended
+    requires counted { limits.events ≤ most_counted }
+    ensures verdict { IfSome (S.left input.old)
+        (λ bytes. IsVerdictWithin limits bytes result.verdict) }
+    ensures outstanding { IfSome (S.left input.old)
+        (λ bytes. IsOutstanding bytes result.verdict result.outstanding) }
+    ensures whole { (events : ℕ) → result.verdict ≡ Accepted events
+        → LeavesNothing (S.left input.old) (S.left input.new) }
+    ensures sound { (events : ℕ) → result.verdict ≡ Accepted events
+        → IfSome (S.left input.old) (ReadsSoundWithin limits.events) }
+    ensures cause { HasReadCause (S.faults input.old) (S.faults input.new) result.verdict }
+{
     match follow_within(alloc, input, None, limits) {
-        Ok(follower) => Verdict::Accepted {
-            events: events_of(follower),
+        Ok(follower) => Ended {
+            verdict: Verdict::Accepted {
+                events: follower.count(),
+            },
+            outstanding: outstanding_of(follower),
         },
-        Err(verdict) => verdict,
+        Err(verdict) => Ended {
+            verdict,
+            outstanding: 0,
+        },
     }
 }
 

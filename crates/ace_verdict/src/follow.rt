@@ -11,6 +11,7 @@ ghost use Rattle.ace_check.specs.Run as check;
 ghost use Rattle.ace_account.specs.Accounts.{HasPut, HasPutCause};
 ghost use Rattle.ace_account.specs.Listeners as listening;
 ghost use Rattle.ace_grammar.specs.Reading.{most_events};
+ghost use Rattle.ace_outstanding.specs.Outstanding.{outstanding_count};
 ghost use Rattle.ace_verdict.specs.Follow.{Follows, HasTaken, TakesOn, asked_of, ended_by, fed_verdict};
 ghost use Rattle.ace_verdict.specs.Progress.{IsStop, StopsAt};
 
@@ -20,6 +21,7 @@ use ace_check::{CheckErr, Checker, Step};
 use ace_event::{Event, Header, Line};
 use ace_grammar::Taker;
 use ace_io::{NoMemory, Sink};
+use ace_outstanding::count_outstanding;
 use std::alloc::Global;
 
 /// The verdict that ends the check, if the checker doesn't say that the event is fine.
@@ -187,11 +189,15 @@ impl Taker for Follower {
     }
 }
 
-/// How many events the follower has followed, of which there is no more use.
-pub fn events_of(follower: Follower) -> u64
-    ensures { (lines : ℕ) (h : Header) (past : Trace) → Follows lines follower h past → result ≡ length past }
+/// How many transactions are outstanding after what the follower has followed, of which there is no
+/// more use.
+pub fn outstanding_of(follower: Follower) -> u64
+    ensures { (lines : ℕ) (h : Header) (past : Trace) → Follows lines follower h past
+        → result ≡ outstanding_count h past }
 {
-    follower.count()
+    let count = count_outstanding(follower.checker.ports());
+    drop(follower);
+    count
 }
 
 /// Puts the account that was asked for, of a follower of which there is no more use.

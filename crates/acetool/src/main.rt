@@ -7,7 +7,8 @@ use ace_call::read_words;
 use ace_io::{Failed, NoMemory, StdSink, StdSource};
 use ace_retry::Patient;
 use ace_tool::{
-    CheckOptions, Checks, Folder, OpenErr, Shelf, acetool, batch, result_in, tell_no_memory,
+    CheckOptions, Checks, Folder, OpenErr, Shelf, acetool, batch, chart, cover, merge, result_in,
+    tell_no_memory,
 };
 use std::alloc::Global;
 use std::fs::File;
@@ -95,6 +96,9 @@ fn main(rt: HostRuntime) -> ExitCode {
     };
     let files = Disk { rt: &rt };
     let status = match words.as_slice() {
+        [word, second, rest @ ..] if word.as_str() == "batch" && second.as_str() == "--merge" => {
+            merge(rt.alloc(), rest, &files, &mut out, &mut notes)
+        }
         [word, rest @ ..] if word.as_str() == "batch" => batch(
             &rt,
             rt.alloc(),
@@ -106,6 +110,18 @@ fn main(rt: HostRuntime) -> ExitCode {
             &mut out,
             &mut notes,
         ),
+        [word, rest @ ..] if word.as_str() == "chart" => chart(
+            rt.alloc(),
+            rest,
+            &files,
+            &mut Writer { rt: &rt, faults: 0 },
+            &mut input,
+            &mut out,
+            &mut notes,
+        ),
+        [word, rest @ ..] if word.as_str() == "cover" => {
+            cover(rt.alloc(), rest, &files, &mut input, &mut out, &mut notes)
+        }
         words => acetool(rt.alloc(), words, &files, &mut input, &mut out, &mut notes),
     };
     ExitCode::from(status)

@@ -1,0 +1,4 @@
+pub mod Looks
+pub mod Rows
+pub mod Texts
+pub mod Words

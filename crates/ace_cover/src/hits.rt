@@ -1,0 +1,56 @@
+// Counting.
+ghost use Rattle.std.specs.Prelude.{◌≡◌, ◌<◌, ◌+◌, ◌-◌, ◌^◌, ℕ, if◌then◌else◌, length, map, slice_index, slice_set};
+ghost use Rattle.ace_cover.specs.Counts.{has_point};
+ghost use Rattle.ace_model.specs.Trace.{is_some_and};
+ghost use Rattle.ace_points.specs.Same.{same_point};
+ghost use Rattle.ace_points.specs.declared.point.Point.{Point as Shown};
+
+use ace_points::{Point, same_point};
+
+/// The point is the one that is shown.
+fn is_point(shown: &Option<Point>, point: &Point) -> bool
+    ensures { result ≡ is_some_and shown.now (λ q. same_point q point.now) }
+{
+    match shown {
+        Some(other) => same_point(other, point),
+        None => false,
+    }
+}
+
+/// The point is among those that are shown.
+fn has_point(shown: &[Option<Point>; 5], point: &Point) -> bool
+    ensures { result ≡ has_point shown.now point.now }
+{
+    shown.iter().any(|one| is_point(one, point))
+}
+
+/// One more, where it is so.
+fn one_more(count: u64, is_hit: bool) -> u64
+    ensures { count < 2 ^ 64 - 1 → result ≡ (if is_hit then count + 1 else count) }
+{
+    if is_hit { count.wrapping_add(1) } else { count }
+}
+
+/// Counts one more at the place, where it is so.
+fn count_at(hits: &mut Vec<u64>, place: usize, is_hit: bool)
+    ensures { place < length hits.old.items → slice_index hits.old.items place < 2 ^ 64 - 1
+        → hits.new.items ≡ slice_set hits.old.items place
+        (if is_hit then slice_index hits.old.items place + 1
+        else slice_index hits.old.items place) }
+{
+    if place < hits.len() {
+        hits[place] = one_more(hits[place], is_hit);
+    }
+}
+
+/// Counts the points that an event shows: `hits` has the count of each point, in their order.
+pub(crate) fn count_shown(points: &[Point], hits: &mut Vec<u64>, shown: &[Option<Point>; 5])
+    ensures { (before after : Shown → ℕ) → hits.old.items ≡ map before points.now
+        → ((p : Shown) → before p < 2 ^ 64 - 1)
+        → ((p : Shown) → after p ≡ (if has_point shown.now p then before p + 1 else before p))
+        → hits.new.items ≡ map after points.now }
+{
+    for place in 0..points.len() {
+        count_at(hits, place, has_point(shown, &points[place]));
+    }
+}

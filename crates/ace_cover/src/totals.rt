@@ -1,0 +1,121 @@
+// What traces have shown.
+ghost use Rattle.std.specs.Prelude.{◌≡◌, ◌<◌, ◌++◌, length, map, slice_index, slice_set, IfOk, OnOk};
+ghost use Rattle.ace_cover.specs.Counts.{sum_of, sums};
+ghost use Rattle.ace_points.specs.Points.{all_points};
+
+use ace_io::NoMemory;
+use ace_points::{
+    Point, answer_points, read_end_points, silent_points, start_points, transaction_points,
+    update_points, write_end_points,
+};
+use std::alloc::Global;
+
+/// How many traces were accepted, how many events they have, and how many of these show each point.
+#[derive(Drop)]
+pub struct Totals {
+    pub traces: u64,
+    pub events: u64,
+    /// In the order of all points.
+    pub hits: Vec<u64>,
+}
+
+/// Adds the points at the end.
+fn push_points(points: &mut Vec<Point>, more: &[Point]) -> Result<(), NoMemory>
+    ensures { OnOk result (points.new.items ≡ points.old.items ++ more.now) }
+{
+    match points.extend_from_slice(more) {
+        Ok(()) => Ok(()),
+        Err(_) => Err(NoMemory),
+    }
+}
+
+/// All points, group by group.
+///
+/// # Errors
+///
+/// `NoMemory` where there is none for them.
+pub fn all_points(alloc: Global) -> Result<Vec<Point>, NoMemory>
+    ensures { IfOk result (λ points. points.items ≡ all_points) }
+{
+    let mut points = Vec::new(alloc);
+    push_points(&mut points, transaction_points())?;
+    push_points(&mut points, start_points())?;
+    push_points(&mut points, read_end_points())?;
+    push_points(&mut points, write_end_points())?;
+    push_points(&mut points, answer_points())?;
+    push_points(&mut points, update_points())?;
+    push_points(&mut points, silent_points())?;
+    Ok(points)
+}
+
+/// The counts of a trace without events: 0 for each point.
+///
+/// # Errors
+///
+/// `NoMemory` where there is none for them.
+#[tactic(auto, using(crate::proofs::Counting::zeros))]
+pub fn no_hits(alloc: Global, points: &[Point]) -> Result<Vec<u64>, NoMemory>
+    ensures { IfOk result (λ hits. hits.items ≡ map (λ _. 0) points.now) }
+{
+    let mut hits = Vec::new(alloc);
+    for _point in points {
+        if hits.push(0).is_err() {
+            return Err(NoMemory);
+        }
+    }
+    Ok(hits)
+}
+
+/// Adds the count at the place to the other one there, if there is such a place.
+fn add_at(total: &mut Vec<u64>, hits: &[u64], place: usize)
+    requires { place < length hits.now }
+    ensures { total.new.items ≡ slice_set total.old.items place
+        (sum_of (slice_index total.old.items place) (slice_index hits.now place)) }
+{
+    if place < total.len() {
+        total[place] = total[place].saturating_add(hits[place]);
+    }
+}
+
+/// Adds the counts of a trace to others, place by place.
+pub fn add_hits(total: &mut Vec<u64>, hits: &[u64])
+    ensures { total.new.items ≡ sums total.old.items hits.now }
+{
+    for place in 0..hits.len() {
+        add_at(total, hits, place);
+    }
+}
+
+impl Totals {
+    ghost use Rattle.std.specs.Prelude.{◌≡◌, map, IfOk};
+    ghost use Rattle.ace_cover.specs.Counts.{sum_of, sums};
+
+    /// Of no trace.
+    ///
+    /// # Errors
+    ///
+    /// `NoMemory` where there is none for the counts.
+    pub fn none(alloc: Global, points: &[Point]) -> Result<Totals, NoMemory>
+        ensures traces { IfOk result (λ t. t.traces ≡ 0) }
+        ensures events { IfOk result (λ t. t.events ≡ 0) }
+        ensures hits { IfOk result (λ t. t.hits.items ≡ map (λ _. 0) points.now) }
+    {
+        let hits = no_hits(alloc, points)?;
+        Ok(Totals {
+            traces: 0,
+            events: 0,
+            hits,
+        })
+    }
+
+    /// With one more accepted trace, which has so many events, and these counts.
+    pub fn add(&mut self, events: u64, hits: &[u64])
+        ensures traces { self.new.traces ≡ sum_of self.old.traces 1 }
+        ensures events { self.new.events ≡ sum_of self.old.events events }
+        ensures hits { self.new.hits.items ≡ sums self.old.hits.items hits.now }
+    {
+        self.traces = self.traces.saturating_add(1);
+        self.events = self.events.saturating_add(events);
+        add_hits(&mut self.hits, hits);
+    }
+}

@@ -1,0 +1,5 @@
+pub mod Deeds
+pub mod KindWords
+pub mod Phrases
+pub mod Sentences
+pub mod SmallWords

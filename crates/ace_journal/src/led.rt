@@ -1,0 +1,18 @@
+// What led to an event.
+ghost use Rattle.std.specs.Prelude.{◌≤◌};
+
+use crate::rows::{MOST_ROWS, Row};
+
+/// What led to an event.
+#[derive(Clone, Copy)]
+pub struct Led {
+    /// The last rows of its line, the newest first, and then any.
+    pub rows: [Row; MOST_ROWS],
+    /// How many of them there are.
+    pub count: usize,
+    /// The row of the event itself.
+    pub own: Row,
+    /// Its line, if it has one.
+    pub line: Option<u32>,
+    ghost few: { count ≤ 16 },
+}

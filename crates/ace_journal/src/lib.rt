@@ -1,0 +1,12 @@
+//! What led to an event: of each line the last events, kept as a trace is read, and their text.
+#![tactic(auto)]
+
+mod journal;
+mod led;
+mod led_text;
+mod rows;
+
+pub use journal::Journal;
+pub use led::Led;
+pub use led_text::push_led;
+pub use rows::{MOST_ROWS, Row};

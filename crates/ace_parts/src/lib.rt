@@ -1,0 +1,13 @@
+//! Results of parts of a list of traces, as `ace_batch` writes them, read back and put together.
+#![tactic(auto)]
+
+mod cursor;
+mod merging;
+mod part;
+mod read_entry;
+mod reading;
+mod whole;
+
+pub use merging::{MergeErr, merge};
+pub use part::{Part, PartErr};
+pub use reading::read_part;

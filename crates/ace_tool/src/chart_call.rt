@@ -1,0 +1,18 @@
+// What `chart` is asked to do.
+ghost use Rattle.std.specs.Prelude.{◌≤◌};
+
+use ace_drawing::LineChoice;
+
+/// What `chart` is asked to do.
+#[derive(Clone, Copy)]
+pub struct ChartCall<'a> {
+    /// The name of the trace.
+    pub trace: &'a str,
+    /// The file for the picture; else it is told.
+    pub out: Option<&'a str>,
+    /// The line that is drawn.
+    pub line: LineChoice,
+    /// The most rows before an event that breaks a rule.
+    pub rows: usize,
+    ghost few: { rows ≤ 1000000 },
+}
