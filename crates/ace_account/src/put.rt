@@ -33,7 +33,8 @@ fn put_stores<K: Sink>(sink: &mut K, page: &mut TextBuf, order: &LineOrder) -> R
 /// Puts a line for each store, line of memory by line of memory.
 fn put_orders<K: Sink>(sink: &mut K, page: &mut TextBuf, lines: &LineList) -> Result<(), Failed>
     ensures whole { OnOk result
-        (Puts (K.held sink.old) page.old (flat_map order_lines lines.now) (K.held sink.new) page.new []) }
+        (Puts (K.held sink.old) page.old (flat_map order_lines lines.now)
+        (K.held sink.new) page.new []) }
     ensures part { OnErr result
         (PutsPart (K.held sink.old) page.old (flat_map order_lines lines.now) (K.held sink.new)) }
     ensures cause { HasCause (K.faults sink.old) (K.faults sink.new) result }
@@ -50,7 +51,8 @@ fn put_orders<K: Sink>(sink: &mut K, page: &mut TextBuf, lines: &LineList) -> Re
 /// Puts a line for each read.
 fn put_places<K: Sink>(sink: &mut K, page: &mut TextBuf, reads: &PlaceList) -> Result<(), Failed>
     ensures whole { OnOk result
-        (Puts (K.held sink.old) page.old (flat_map place_line reads.now) (K.held sink.new) page.new []) }
+        (Puts (K.held sink.old) page.old (flat_map place_line reads.now)
+        (K.held sink.new) page.new []) }
     ensures part { OnErr result
         (PutsPart (K.held sink.old) page.old (flat_map place_line reads.now) (K.held sink.new)) }
     ensures cause { HasCause (K.faults sink.old) (K.faults sink.new) result }

@@ -1,5 +1,5 @@
-//! Where to look first when a trace breaks a rule: how designs break it in practice, and what is often
-//! wrong in a recorder instead.
+//! Where to look first when a trace breaks a rule: how designs break it in practice, and what is
+//! often wrong in a recorder instead.
 #![tactic(auto)]
 
 mod designs;

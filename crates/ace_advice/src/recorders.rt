@@ -62,7 +62,8 @@ fn snoop_recorder(rule: u8) -> &'static str
     }
 }
 
-/// What to look at in a recorder where the rule is broken. Empty where there is no such rule or nothing is told.
+/// What to look at in a recorder where the rule is broken. Empty where there is no such rule or
+/// nothing is told.
 ///
 /// Each line but the first is indented by 17 columns, as the text stands beside a label.
 pub fn in_a_recorder(rule: u8) -> &'static str

@@ -1,4 +1,5 @@
-// Steps on a small cache, a store into some bytes of a line, and caches of the least and the most ways.
+// Steps on a small cache, a store into some bytes of a line, and caches of the least and the most
+// ways.
 
 ghost use Rattle.std.specs.Prelude.{◌<◌};
 
@@ -134,7 +135,8 @@ fn stores_some_bytes(rt: HostRuntime) -> Result<(), Fail> {
     Ok(())
 }
 
-/// Whether a cache of so many ways takes a line for each, and has no room then and the first as its victim.
+/// Whether a cache of so many ways takes a line for each, and has no room then and the first as its
+/// victim.
 fn fills(alloc: Global, ways: u8) -> Result<bool, NoMemory>
     requires some { 0 < ways }
     requires most { ways < 33 }

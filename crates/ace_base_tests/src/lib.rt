@@ -1,5 +1,6 @@
-//! Tests of the crates at the bottom: the words of the channels and the tables, events, sources and sinks, maps by lines, line caches and policies. They
-//! stand in a crate of their own, so that what they test is proved once.
+//! Tests of the crates at the bottom: the words of the channels and the tables, events, sources and
+//! sinks, maps by lines, line caches and policies. They stand in a crate of their own, so that what
+//! they test is proved once.
 #![tactic(auto)]
 
 #[cfg(test)]

@@ -9,8 +9,8 @@ use std::alloc::Global;
 use std::io;
 use std::io::{Error, ErrorKind, Read};
 
-/// The mark of an answer: `|` for a whole line, `~` for one without its line feed, `$` at the end of the bytes and `!` at
-/// a failure.
+/// The mark of an answer: `|` for a whole line, `~` for one without its line feed, `$` at the end
+/// of the bytes and `!` at a failure.
 fn mark_of(answer: Result<LineEnd, Failed>) -> u8 {
     match answer {
         Ok(LineEnd::Whole) => b'|',
@@ -20,7 +20,8 @@ fn mark_of(answer: Result<LineEnd, Failed>) -> u8 {
     }
 }
 
-/// What stands in a text behind this line and its mark, which have to be at its front. At a failure there is no line.
+/// What stands in a text behind this line and its mark, which have to be at its front. At a failure
+/// there is no line.
 fn behind<'a>(text: &'a [u8], line: &[u8], mark: u8) -> Option<&'a [u8]> {
     let marked = if mark == b'!' {
         Some(text)
@@ -33,7 +34,8 @@ fn behind<'a>(text: &'a [u8], line: &[u8], mark: u8) -> Option<&'a [u8]> {
     }
 }
 
-/// Whether the lines of a source, up to its end or a failure and each with its mark behind it, are this text.
+/// Whether the lines of a source, up to its end or a failure and each with its mark behind it, are
+/// this text.
 fn are_lines<S: Source>(alloc: Global, source: &mut S, marked: &[u8]) -> bool {
     match LineReader::start(alloc, source) {
         Ok(mut reader) => {
@@ -108,7 +110,8 @@ fn behind_xs(alloc: Global, count: usize, text: &[u8]) -> Option<Vec<u8>> {
     }
 }
 
-/// Whether a line of so many `x` is cut into a line of as many of them, or the first 256, and the rest.
+/// Whether a line of so many `x` is cut into a line of as many of them, or the first 256, and the
+/// rest.
 fn is_cut_long(alloc: Global, len: usize, rest: &[u8]) -> bool {
     match behind_xs(alloc, len, b"\n") {
         Some(text) => match behind_xs(alloc, len.min(256), rest) {
@@ -167,8 +170,8 @@ fn lends_lines(rt: HostRuntime) {
     }
 }
 
-/// Whether a source whose take of this number fails has these lines before it, and those of the bytes that were not
-/// taken after it.
+/// Whether a source whose take of this number fails has these lines before it, and those of the
+/// bytes that were not taken after it.
 fn stops(alloc: Global, failing: u32, before: &[u8], after: &[u8]) -> bool {
     match MemSource::new(alloc, b"ab\ncd\nef", &[4], &[failing]) {
         Ok(mut source) => {
@@ -194,8 +197,8 @@ fn gives<K: Sink>(sink: &mut K, bytes: &[u8], answer: Result<usize, Failed>) -> 
     sink.give(bytes) == answer
 }
 
-/// Whether four gives of three bytes are answered so, and these bytes are held then, where there is so much room and the
-/// give of this number fails.
+/// Whether four gives of three bytes are answered so, and these bytes are held then, where there is
+/// so much room and the give of this number fails.
 fn fills(
     alloc: Global,
     room: usize,

@@ -1,10 +1,12 @@
-// Lines that share their number and all but one of their digits, lines that begin at no multiple of 64, and the order of values.
+// Lines that share their number and all but one of their digits, lines that begin at no multiple of
+// 64, and the order of values.
 
 use ace_places::LineMap;
 use std::alloc::{AllocError, Global};
 use std::test::Fail;
 
-/// Lines that are hard to tell apart: of one number, with one digit that differs, and at bytes beside one another.
+/// Lines that are hard to tell apart: of one number, with one digit that differs, and at bytes
+/// beside one another.
 const HARD: [u32; 10] = [
     0x0000_0040,
     0x0001_0040,

@@ -1,5 +1,5 @@
-//! Tests of the results of many traces. They stand in a crate of their own, so that what they test is
-//! proved once.
+//! Tests of the results of many traces. They stand in a crate of their own, so that what they test
+//! is proved once.
 #![tactic(auto)]
 
 #[cfg(test)]

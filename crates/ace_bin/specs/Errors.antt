@@ -33,8 +33,8 @@ LeavesNothing (Some bytes) new = new ≡ Some []
 abbrev pub HoldsNoRecord : ℕ → List ℕ → Type 0
 HoldsNoRecord version bytes = (bytes ≡ []) ⊎ (record_reason version bytes ≡ Some Z1)
 
--- What was read behind a tag, by the event that stands in the place then: an event in range with the numbers of so many bytes, or
--- why there is none.
+-- What was read behind a tag, by the event that stands in the place then: an event in range with
+-- the numbers of so many bytes, or why there is none.
 abbrev pub IsReadAs : ℕ → ℕ → List ℕ → Event → Result ℕ BinReason → Type 0
 IsReadAs version tag bytes event (Ok size) =
     (size ≡ size_of_all (fields_of tag)) × (size_of_all (fields_of tag) ≤ length bytes)
@@ -49,8 +49,8 @@ IsRecord version bytes event (Ok size) =
     (size ≤ length bytes) × InRange version event × (take size bytes ≡ event_bytes event)
 IsRecord version bytes event (Err reason) = record_reason version bytes ≡ Some reason
 
--- What stands at the front of some bytes, by the event that stands in the place then. What is malformed stays so, whatever comes
--- after the bytes.
+-- What stands at the front of some bytes, by the event that stands in the place then. What is
+-- malformed stays so, whatever comes after the bytes.
 abbrev pub IsFront : ℕ → List ℕ → Event → Front → Type 0
 IsFront version bytes event (fronts.Record size) = IsRecord version bytes event (Ok size)
 IsFront version bytes event (fronts.Malformed reason) =
@@ -64,8 +64,8 @@ with_event event (Ok (Some put)) = Ok (Some event)
 with_event event (Ok None) = Ok None
 with_event event (Err error) = Err error
 
--- Why there is no header, by the bytes and the count of faults before it was read, and those that the source has then. At a
--- fault what was taken is less than a header.
+-- Why there is no header, by the bytes and the count of faults before it was read, and those that
+-- the source has then. At a fault what was taken is less than a header.
 abbrev pub HasNoHeader : BinErr → Option (List ℕ) → ℕ → Option (List ℕ) → ℕ → Type 0
 HasNoHeader (Malformed byte reason) old faults new faults' =
     IfTold old (λ bytes. HasBadHeader bytes byte reason) × TakesFront old new (λ taken. Unit {0})
@@ -74,9 +74,9 @@ HasNoHeader TooManyEvents old faults new faults' = ⊥
 HasNoHeader ReadFault old faults new faults' =
     TakesFront old new (λ taken. length taken < header_size) × Rose faults faults'
 
--- What stands next in a trace of a version after so many events and so many bytes, by the bytes that were not read before and
--- those that are not read after it, and those that the source has left then. At a fault what was taken and not read holds no
--- whole record.
+-- What stands next in a trace of a version after so many events and so many bytes, by the bytes
+-- that were not read before and those that are not read after it, and those that the source has
+-- left then. At a fault what was taken and not read holds no whole record.
 abbrev pub StandsNext : ℕ → Result (Option Event) BinErr → ℕ → ℕ → Option (List ℕ)
     → Option (List ℕ) → Option (List ℕ) → Type 0
 StandsNext version (Ok (Some event)) count place old new left =

@@ -28,8 +28,8 @@ given_of writer = writer.given
 abbrev pub counted : ℕ → ℕ
 counted bytes = min bytes (2 ^ 64 - 1)
 
--- A front of the bytes of a trace was given, to a sink that before held these bytes, and `given` is its length. Until a write
--- fault the rest is in hand.
+-- A front of the bytes of a trace was given, to a sink that before held these bytes, and `given` is
+-- its length. Until a write fault the rest is in hand.
 pub record GivesFront {K : Type 0} (held : K → Option (List ℕ)) (before : Option (List ℕ))
     (bytes : List ℕ)
     (writer : BinWriter K) : Type 0 where

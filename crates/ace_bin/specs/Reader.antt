@@ -23,7 +23,8 @@ use Rattle.ace_bin.specs.Window as window
 abbrev pub source_of : {S : Type 0} {g : Ghosts S} → BinReader S g → MutBor S
 source_of reader = window.source_of reader.window
 
--- the bytes that were read neither as a header nor as an event, where its source tells what it has left
+-- the bytes that were read neither as a header nor as an event, where its source tells what it has
+-- left
 abbrev pub unread : {S : Type 0} {g : Ghosts S} → (S → Option (List ℕ)) → BinReader S g
     → Option (List ℕ)
 unread left reader = window.waiting left reader.window
@@ -86,8 +87,8 @@ pub record HasRead {S : Type 0} {g : Ghosts S} (left : S → Option (List ℕ)) 
   pub placed : length (binary_of (header_of reader) events) ≡ place_of reader
   pub read : Consumes (Some bytes) (unread left reader) (binary_of (header_of reader) events)
 
--- The answer of a reader that had read these events of the bytes is that of their reading: one more event, or how they end. At
--- a fault what was taken and not read holds no whole record.
+-- The answer of a reader that had read these events of the bytes is that of their reading: one more
+-- event, or how they end. At a fault what was taken and not read holds no whole record.
 abbrev pub IsReading : {S : Type 0} {g : Ghosts S} → (S → Option (List ℕ)) → List ℕ → List Event
     → BinReader S g → BinReader S g → Result (Option Event) BinErr → Type 0
 IsReading left bytes events old new (Ok (Some event)) =

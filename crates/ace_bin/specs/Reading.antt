@@ -36,8 +36,8 @@ AreFew header =
     (count_by (λ letter. letter == 65) (port_letters header) ≤ most_letters header.version)
     × (count_by (λ letter. letter == 76) (port_letters header) ≤ most_letters header.version)
 
--- The header is right: it begins as it has to, its version is 1 or 2, the numbers of its ports are within the limits of the
--- version, and no bit of `ace` at or above the number of ports is 1.
+-- The header is right: it begins as it has to, its version is 1 or 2, the numbers of its ports are
+-- within the limits of the version, and no bit of `ace` at or above the number of ports is 1.
 pub record IsRightHeader (bytes : List ℕ) : Type 0 where
   pub begins : take 4 bytes ≡ magic
   pub fits : IsHeader (header_at bytes)
@@ -55,8 +55,9 @@ fields_reason version fields bytes =
     if nat_lt (length bytes) (size_of_all fields) then Some Z1
     else (if all_fit version fields (numbers_at fields 0 bytes) then None else Some Z4)
 
--- The least reason why no record of an event in range stands at the front, in a trace of a version: the input ends within the
--- record, its tag isn't one of the version, or a field is out of range. There is none where nothing stands there.
+-- The least reason why no record of an event in range stands at the front, in a trace of a version:
+-- the input ends within the record, its tag isn't one of the version, or a field is out of range.
+-- There is none where nothing stands there.
 abbrev pub record_reason : ℕ → List ℕ → Option BinReason
 record_reason version [] = None
 record_reason version (tag ∷ bytes) =
@@ -66,8 +67,8 @@ record_reason version (tag ∷ bytes) =
 abbrev pub most_events : ℕ
 most_events = 1048576
 
--- How bytes end: after a whole trace, after the most events of a trace with bytes left, or before a malformed record, with the
--- number of bytes before it and the reason.
+-- How bytes end: after a whole trace, after the most events of a trace with bytes left, or before a
+-- malformed record, with the number of bytes before it and the reason.
 pub data Ending : Type 0 where
   Whole : Ending
   Full : Ending
@@ -81,8 +82,8 @@ Ends header (Bad byte reason) events rest =
     (length events < most_events) × (byte ≡ length (binary_of header events))
     × (record_reason header.version rest ≡ Some reason)
 
--- The bytes are this header and the records of these events, oldest first, and then end so. Bytes with a malformed header have
--- no such reading.
+-- The bytes are this header and the records of these events, oldest first, and then end so. Bytes
+-- with a malformed header have no such reading.
 pub record ReadsBinary (bytes : List ℕ) (header : Header) (events : List Event)
     (ending : Ending) : Type 0 where
   pub header_is_right : IsHeader header

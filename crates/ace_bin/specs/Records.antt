@@ -37,7 +37,8 @@ address_bytes = Bytes 4
 abbrev pub word_bytes : Field
 word_bytes = Bytes 16
 
--- The fields of each record, in the order of the tags, from 1 on. A line has four words, in order of address.
+-- The fields of each record, in the order of the tags, from 1 on. A line has four words, in order
+-- of address.
 abbrev pub records : List (List Field)
 records =
     -- AR p id addr snoop dom bar lock
@@ -81,7 +82,8 @@ records =
 abbrev pub fields_of : ℕ → List Field
 fields_of tag = slice_index_or records (tag - 1) []
 
--- whether a trace of the version has records with this tag: MEM, whose tag is the last one, is no record of version 1
+-- whether a trace of the version has records with this tag: MEM, whose tag is the last one, is no
+-- record of version 1
 abbrev pub is_tag : ℕ → ℕ → Bool
 is_tag version tag = nat_le 1 tag && nat_le tag (if version == 1 then 0x10 else 0x11)
 

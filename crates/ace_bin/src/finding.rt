@@ -83,8 +83,8 @@ fn front_of(bytes: &[u8], version: u8, event: &mut Event) -> Front
     }
 }
 
-/// What stands next, in a trace of a version: a record that isn't whole, or nothing, only at the end of the input. An event is put in
-/// its place.
+/// What stands next, in a trace of a version: a record that isn't whole, or nothing, only at the
+/// end of the input. An event is put in its place.
 #[inline(always)]
 fn find_record<S: Source>(
     window: &mut Window<S>,
@@ -133,8 +133,8 @@ fn read_end<S: Source>(window: &mut Window<S>) -> Result<Option<usize>, BinErr>
     }
 }
 
-/// Reads the next event of a trace of a version, after so many events and so many bytes, into its place, and says how many bytes its
-/// record has. After another answer read no more.
+/// Reads the next event of a trace of a version, after so many events and so many bytes, into its
+/// place, and says how many bytes its record has. After another answer read no more.
 #[inline(always)]
 pub fn read_event<S: Source>(
     window: &mut Window<S>,

@@ -64,8 +64,8 @@ pub fn worked_records()
         ∷ 0 ∷ 0 ∷ 0 ∷ 0 ∷ 0 ∷ 0 ∷ 0 ∷ 0 ∷ 0 ∷ 0 ∷ 0 ∷ 0 ∷ 0 ∷ 0 ∷ 0 ∷ 15 ∷ [] }
 {}
 
-/// The same bytes read in one way: they have one header, one list of events and one ending, or a malformed header with one
-/// reason.
+/// The same bytes read in one way: they have one header, one list of events and one ending, or a
+/// malformed header with one reason.
 pub fn one_reading()
     ensures one { (bytes : List ℕ) (header other : Header) (events others : List Event)
         (end last : Ending)
@@ -97,7 +97,8 @@ pub fn one_spelling()
         → bytes ≡ binary_of header events }
 {}
 
-/// A header and events that stand whole at the front of bytes are a front of what these read as, and no header is malformed then.
+/// A header and events that stand whole at the front of bytes are a front of what these read as,
+/// and no header is malformed then.
 pub fn front_is_read()
     ensures front { (bytes : List ℕ) (header other : Header) (events read : List Event)
         (end : Ending)

@@ -44,8 +44,9 @@ impl<'a, S: Source> BinReader<'a, S> {
     ///
     /// # Errors
     ///
-    /// `Malformed` exactly where the header is malformed, at byte 0 and for this reason; `ReadFault` only where the source's count
-    /// of faults rose in this call, and then what was taken from it is less than a header. The error hands the source back.
+    /// `Malformed` exactly where the header is malformed, at byte 0 and for this reason;
+    /// `ReadFault` only where the source's count of faults rose in this call, and then what was
+    /// taken from it is less than a header. The error hands the source back.
     #[tactic(auto, using(crate::proofs::Progress::read_header_alone))]
     pub fn start(source: &'a mut S) -> Result<BinReader<'a, S>, BinStartErr<'a, S>>
         ensures same_source { IfOk result
@@ -88,14 +89,15 @@ impl<'a, S: Source> BinReader<'a, S> {
         self.header
     }
 
-    /// The next event, or None at the end of the input after a whole record. An answer that is no event stays: each later
-    /// call gives it again, and takes nothing from the source.
+    /// The next event, or None at the end of the input after a whole record. An answer that is no
+    /// event stays: each later call gives it again, and takes nothing from the source.
     ///
     /// # Errors
     ///
-    /// `Malformed` exactly where a record stands next that is malformed, with the number of bytes before it and the least reason
-    /// that applies. `TooManyEvents` exactly where 1,048,576 events were given and a byte stands next. `ReadFault` only where the
-    /// source's count of faults rose in the first call that answers so, and what was taken by then and not given holds no whole
+    /// `Malformed` exactly where a record stands next that is malformed, with the number of bytes
+    /// before it and the least reason that applies. `TooManyEvents` exactly where 1,048,576 events
+    /// were given and a byte stands next. `ReadFault` only where the source's count of faults rose
+    /// in the first call that answers so, and what was taken by then and not given holds no whole
     /// record.
     #[tactic(auto, using(crate::proofs::Progress::reading_next))]
     pub fn next(&mut self) -> Result<Option<Event>, BinErr>

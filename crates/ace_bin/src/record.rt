@@ -30,7 +30,8 @@ fn is_tag(version: u8, tag: u8) -> bool
     1 <= tag && tag <= last
 }
 
-/// The record of the opening memory of a line, which version 1 doesn't have, and what has a tag behind that.
+/// The record of the opening memory of a line, which version 1 doesn't have, and what has a tag
+/// behind that.
 #[inline(always)]
 fn read_last(tag: u8, bytes: &[u8], version: u8, event: &mut Event) -> Result<usize, BinReason>
     requires { 17 ≤ tag }
@@ -108,8 +109,9 @@ fn read_fields(tag: u8, bytes: &[u8], version: u8, event: &mut Event) -> Result<
     }
 }
 
-/// Reads the record at the front of the bytes of a trace of a version into its place, and says how many bytes it has. Where there is
-/// none, the place stays, and the error is the least reason that applies.
+/// Reads the record at the front of the bytes of a trace of a version into its place, and says how
+/// many bytes it has. Where there is none, the place stays, and the error is the least reason that
+/// applies.
 #[inline(always)]
 pub fn read_record(bytes: &[u8], version: u8, event: &mut Event) -> Result<usize, BinReason>
     requires { 0 < length bytes.now }

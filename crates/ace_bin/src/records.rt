@@ -1,4 +1,5 @@
-// Each record, from the bytes behind its tag. The event is put in a place of its own, which stays as it was where there is none.
+// Each record, from the bytes behind its tag. The event is put in a place of its own, which stays
+// as it was where there is none.
 ghost use Rattle.std.specs.Prelude.{◌≡◌, ◌≢◌, ℕ, OnErr};
 ghost use Rattle.ace_bin.specs.Errors.{IsReadAs};
 

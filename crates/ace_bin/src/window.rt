@@ -12,7 +12,8 @@ const BUFFER_SIZE: usize = 65536;
 /// The most bytes of a record, with its tag.
 const RECORD_LIMIT: usize = 79;
 
-/// Moves the bytes from `start` to `end`, of which there are fewer than those of the longest record, to the front.
+/// Moves the bytes from `start` to `end`, of which there are fewer than those of the longest
+/// record, to the front.
 fn move_to_front(buffer: &mut [u8; BUFFER_SIZE], start: usize, end: usize)
     requires order { start ≤ end }
     requires within { end ≤ BUFFER_SIZE }
@@ -25,7 +26,8 @@ fn move_to_front(buffer: &mut [u8; BUFFER_SIZE], start: usize, end: usize)
     buffer[..count].copy_from_slice(&moved[..count]);
 }
 
-/// The bytes of a source. It asks for as many as there is room for at once, and holds what wasn't passed yet.
+/// The bytes of a source. It asks for as many as there is room for at once, and holds what wasn't
+/// passed yet.
 #[derive(Drop)]
 pub struct Window<'a, S: Source> {
     source: &'a mut S,
@@ -101,11 +103,13 @@ impl<'a, S: Source> Window<'a, S> {
         self.start = 0;
     }
 
-    /// Asks the source for more, where fewer bytes are held than the longest record has, and says whether there was any.
+    /// Asks the source for more, where fewer bytes are held than the longest record has, and says
+    /// whether there was any.
     ///
     /// # Errors
     ///
-    /// `Failed` only where the source's count of faults rose in this call, or stood at its last value before. What is held stays.
+    /// `Failed` only where the source's count of faults rose in this call, or stood at its last
+    /// value before. What is held stays.
     #[cold]
     #[inline(never)]
     pub fn more(&mut self) -> Result<bool, Failed>
@@ -131,7 +135,8 @@ impl<'a, S: Source> Window<'a, S> {
         }
     }
 
-    /// Asks for more until so many bytes are held, fewer than the longest record has, and says whether there are so many.
+    /// Asks for more until so many bytes are held, fewer than the longest record has, and says
+    /// whether there are so many.
     ///
     /// # Errors
     ///

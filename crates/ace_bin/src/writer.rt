@@ -15,8 +15,9 @@ use ace_io::{Sink, give_all};
 /// The most bytes of a record, with its tag.
 const RECORD_LIMIT: usize = 79;
 
-/// Writes a binary trace: its header, and a record for each event. The bytes wait until there are about 4096 of them, or for a
-/// call of `flush`, and then go out in one piece. What waits when the writer is dropped is never given.
+/// Writes a binary trace: its header, and a record for each event. The bytes wait until there are
+/// about 4096 of them, or for a call of `flush`, and then go out in one piece. What waits when the
+/// writer is dropped is never given.
 #[derive(Drop)]
 pub struct BinWriter<'a, K: Sink> {
     sink: &'a mut K,
@@ -29,8 +30,8 @@ pub struct BinWriter<'a, K: Sink> {
 impl<'a, K: Sink> BinWriter<'a, K> {
     ghost use Rattle.ace_bin.specs.Given.{sink_of, version_of, in_hand, has_failed, given_of, GivesFront};
 
-    /// A writer whose bytes are those of the header. Nothing is given yet, so it always succeeds: where the sink fails, a later
-    /// call answers so.
+    /// A writer whose bytes are those of the header. Nothing is given yet, so it always succeeds:
+    /// where the sink fails, a later call answers so.
     pub fn start(sink: &'a mut K, header: &Header) -> Result<BinWriter<'a, K>, WriteErr>
         requires { IsHeader header.now }
         ensures always { IsOk result }
@@ -63,8 +64,9 @@ impl<'a, K: Sink> BinWriter<'a, K> {
     ///
     /// # Errors
     ///
-    /// `WriteFault` where the sink's count of faults rose in this call, or where an earlier call of this writer
-    /// answered it; then nothing is given. What was given is a front of the bytes in each case.
+    /// `WriteFault` where the sink's count of faults rose in this call, or where an earlier call of
+    /// this writer answered it; then nothing is given. What was given is a front of the bytes in
+    /// each case.
     pub fn put(&mut self, event: &Event) -> Result<(), WriteErr>
         requires { InRange (version_of self.old) event.now }
         ensures same_sink { (sink_of self.new).ghost_name ≡ (sink_of self.old).ghost_name }

@@ -17,8 +17,8 @@ session_of c = c.owned.value
 abbrev pub IsOpen : AceChecker → (Session → Type 0) → Type 0
 IsOpen c P = MatchOption (session_of c) ⊥ P
 
--- The handle is open for so many lines, and was fed this trace, which is accepted under the names of
--- its lines.
+-- The handle is open for so many lines, and was fed this trace, which is accepted under the names
+-- of its lines.
 abbrev pub Hears : AceChecker → ℕ → Header → Trace → Type 0
 Hears c most h past = IsOpen c (λ s. session.Hears s most h past)
 

@@ -13,7 +13,7 @@ abbrev pub letters_from : ℕ → ℕ → ℕ → ℕ → ℕ
 letters_from ace letter from n =
     count_by (λ other. other == letter) (map (port_letter ace) (range_with_len from n))
 
--- how many lines may be named by the number that is given: 0 stands for no limit, as a trace of fewer
--- than 2^64 - 1 events names fewer lines
+-- how many lines may be named by the number that is given: 0 stands for no limit, as a trace of
+-- fewer than 2^64 - 1 events names fewer lines
 abbrev pub limit_given : ℕ → ℕ
 limit_given lines = if lines == 0 then 2 ^ 64 - 1 else lines

@@ -20,8 +20,8 @@ use Rattle.ace_c.specs.Naming.{NamesStand}
 use Rattle.ace_c.specs.Range.{InRange}
 use Rattle.ace_c.specs.Records.{event_of}
 
--- The session goes on, and has heard this trace, which is accepted under the names of its lines. Its
--- transactions may name so many lines.
+-- The session goes on, and has heard this trace, which is accepted under the names of its lines.
+-- Its transactions may name so many lines.
 pub record Hears (s : Session) (most : ℕ) (h : Header) (past : Trace) : Type 0 where
   pub stands : StandsWithin most s.checker h (named past) None
   pub names : NamesStand s.names (lines_used past)

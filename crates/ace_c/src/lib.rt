@@ -34,9 +34,9 @@ pub use record::AceEvent;
 use std::alloc::Global;
 
 /// Opens a checker of the empty trace of this version with so many ports, of which those with a bit
-/// in `ace` are ACE ports, whose transactions may name so many lines, or any number where that is 0;
-/// and closes what the handle had. The status is 0, or 2 where these are no ports of a trace, or 4
-/// where there is no memory.
+/// in `ace` are ACE ports, whose transactions may name so many lines, or any number where that is
+/// 0; and closes what the handle had. The status is 0, or 2 where these are no ports of a trace, or
+/// 4 where there is no memory.
 #[unsafe(no_mangle)]
 pub extern "C" fn ace_open(
     alloc: Global,

@@ -11,8 +11,8 @@ use ace_io::NoMemory;
 use std::alloc::Global;
 use std::marker::Model;
 
-/// The lines that a master holds, at most as many as it has ways, the most recently used first. No two have one
-/// address. Its room is reserved as it is made, and no later call takes memory.
+/// The lines that a master holds, at most as many as it has ways, the most recently used first. No
+/// two have one address. Its room is reserved as it is made, and no later call takes memory.
 #[derive(Drop)]
 pub struct LineCache {
     ways: u8,
@@ -27,7 +27,8 @@ impl Model for LineCache {
 
     ghost view = { λ c. record { ways = c.ways; held = c.held.items } };
 
-    ghost invariant = { λ c. IsCache (record { ways = c.ways; held = c.held.items }) × (c.ways ≤ vec_capacity c.held) };
+    ghost invariant = { λ c. IsCache (record { ways = c.ways; held = c.held.items })
+        × (c.ways ≤ vec_capacity c.held) };
 }
 
 impl LineCache {
@@ -78,7 +79,9 @@ impl LineCache {
     pub fn fill(&mut self, addr: u32, line: Line, st: LineState, busy: bool)
         requires absent { way_of self.old.held addr ≡ None }
         requires room { length self.old.held < self.old.ways }
-        ensures { self.new ≡ record self.old { held = record { addr = addr; st = st; line = line; busy = busy } ∷ self.old.held } }
+        ensures { self.new ≡ record self.old {
+          held = record { addr = addr; st = st; line = line; busy = busy } ∷ self.old.held;
+        } }
     {
         let way = Way {
             addr,
@@ -89,8 +92,8 @@ impl LineCache {
         put_front(&mut self.held, way);
     }
 
-    /// Stores into the Way with this address, and brings it to the front: byte n, from 0 to 63, becomes that of `bytes`
-    /// where bit n of the strobe is 1, and else stays.
+    /// Stores into the Way with this address, and brings it to the front: byte n, from 0 to 63,
+    /// becomes that of `bytes` where bit n of the strobe is 1, and else stays.
     #[tactic(auto, using(crate::proofs::Distinct::found_steps))]
     pub fn store(&mut self, addr: u32, strobe: u64, bytes: Line)
         requires { IsSome (way_of self.old.held addr) }
@@ -102,7 +105,8 @@ impl LineCache {
         }
     }
 
-    /// Gives the Way with this address that state, and makes it busy or not. Each Way keeps its place.
+    /// Gives the Way with this address that state, and makes it busy or not. Each Way keeps its
+    /// place.
     pub fn set(&mut self, addr: u32, st: LineState, busy: bool)
         requires { IsSome (way_of self.old.held addr) }
         ensures { self.new ≡ record self.old { held = map (marked addr st busy) self.old.held } }
@@ -126,8 +130,8 @@ impl LineCache {
         self.held.len() < usize::from(self.ways)
     }
 
-    /// The address of the Way to give up for another: the least recently used one that isn't busy. None exactly where
-    /// there is room or every Way is busy.
+    /// The address of the Way to give up for another: the least recently used one that isn't busy.
+    /// None exactly where there is room or every Way is busy.
     pub fn victim(&self) -> Option<u32>
         ensures { result ≡ victim_of self.now }
     {

@@ -1,4 +1,5 @@
-//! What the calls of the programs share: their words, numbers among them, and texts that are given to an output whole or in part.
+//! What the calls of the programs share: their words, numbers among them, and texts that are given
+//! to an output whole or in part.
 #![tactic(auto)]
 
 mod give;

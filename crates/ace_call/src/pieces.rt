@@ -28,8 +28,10 @@ fn join_pieces(pieces: &[&str]) -> Option<ArrayString<ROOM>>
 /// Gives one piece after another.
 #[tactic(auto, using(crate::proofs::PieceLemmas::giving))]
 fn give_each<K: Sink>(sink: &mut K, pieces: &[&str]) -> Result<(), Failed>
-    ensures whole { OnOk result (Appends (K.held sink.old) (K.held sink.new) (flat_map (λ piece. piece.now) pieces.now)) }
-    ensures part { OnErr result (AppendsPart (K.held sink.old) (K.held sink.new) (flat_map (λ piece. piece.now) pieces.now)) }
+    ensures whole { OnOk result (Appends (K.held sink.old) (K.held sink.new)
+        (flat_map (λ piece. piece.now) pieces.now)) }
+    ensures part { OnErr result (AppendsPart (K.held sink.old) (K.held sink.new)
+        (flat_map (λ piece. piece.now) pieces.now)) }
     ensures cause { HasCause (K.faults sink.old) (K.faults sink.new) result }
 {
     for piece in pieces {
@@ -47,8 +49,10 @@ fn give_each<K: Sink>(sink: &mut K, pieces: &[&str]) -> Result<(), Failed>
 ///
 /// `Failed` where the sink failed: a front of the text was given.
 pub fn give_pieces<K: Sink>(sink: &mut K, pieces: &[&str]) -> Result<(), Failed>
-    ensures whole { OnOk result (Appends (K.held sink.old) (K.held sink.new) (flat_map (λ piece. piece.now) pieces.now)) }
-    ensures part { OnErr result (AppendsPart (K.held sink.old) (K.held sink.new) (flat_map (λ piece. piece.now) pieces.now)) }
+    ensures whole { OnOk result (Appends (K.held sink.old) (K.held sink.new)
+        (flat_map (λ piece. piece.now) pieces.now)) }
+    ensures part { OnErr result (AppendsPart (K.held sink.old) (K.held sink.new)
+        (flat_map (λ piece. piece.now) pieces.now)) }
     ensures cause { HasCause (K.faults sink.old) (K.faults sink.new) result }
 {
     match join_pieces(pieces) {

@@ -3,8 +3,8 @@ use std::env;
 use std::env::Env;
 use std::io::ErrorKind;
 
-/// The words of the command line behind the program's name, or None where there was no memory for them. Where they can't be had as text
-/// there are none.
+/// The words of the command line behind the program's name, or None where there was no memory for
+/// them. Where they can't be had as text there are none.
 pub fn read_words<R: Env + AllocGlobal>(rt: &R) -> Option<Vec<String>> {
     let mut words = Vec::new(rt.alloc());
     let given = match env::args(rt) {

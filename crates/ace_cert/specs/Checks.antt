@@ -1,4 +1,5 @@
--- Whether a certificate is one, as a test of its lines, of its reads, and of each event after those before it.
+-- Whether a certificate is one, as a test of its lines, of its reads, and of each event after those
+-- before it.
 use Rattle.std.specs.Prelude.{ℕ, ◌+◌, ◌-◌, ◌==◌, ◌≡◌, ◌<◌, ◌≤◌, nat_le, nat_lt, Bool, true, false, ◌&&◌, ◌||◌, if◌then◌else◌, List, [], ◌∷◌, length, map, reverse, slice_get, All, Option, Some, None, option_map, unwrap_or}
 use Rattle.std.specs.List.Sorted.{IsStrictlyIncreasing}
 use Rattle.std.specs.List.{list_any}
@@ -22,7 +23,8 @@ first_grant [] p i = None
 first_grant (Ar q j addr snoop dom bar lock ∷ past) p i =
     if (p == q) && (i == j) then None else first_grant past p i
 first_grant (G q c j ∷ past) p i =
-    if is_read c && (p == q) && (i == j) then Some (unwrap_or (first_grant past p i) (length past + 1))
+    if is_read c && (p == q) && (i == j)
+    then Some (unwrap_or (first_grant past p i) (length past + 1))
     else first_grant past p i
 first_grant (_ ∷ past) p i = first_grant past p i
 
@@ -64,7 +66,8 @@ all_pass lines reads [] = true
 all_pass lines reads (e ∷ past) =
     all_pass lines reads past && (lists_line lines (length past) e && passes reads past e)
 
--- the event is a load, with so many events before it, or a beat of the line read that was issued with so many before it
+-- the event is a load, with so many events before it, or a beat of the line read that was issued
+-- with so many before it
 abbrev pub reads_at : Trace → Event → ℕ → Bool
 reads_at past (L p l w x word) n = length past == n
 reads_at past (R p i resp last word) n =

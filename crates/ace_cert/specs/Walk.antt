@@ -45,7 +45,11 @@ under p i = p * 256 + i
 abbrev pub reading_of : Trace → ℕ → ℕ → Option Reading
 reading_of past p i =
     option_map
-    (λ x. record { transaction = x; transfers = transfers past p i; granted = first_grant past p i })
+    (λ x. record {
+      transaction = x;
+      transfers = transfers past p i;
+      granted = first_grant past p i;
+    })
     (transaction_of past p Read i)
 
 abbrev pub AreReadsKept : Trace → BTreeMap ℕ Reading → Type 0

@@ -12,9 +12,11 @@ use Rattle.ace_cert.specs.declared.cert.ReadPlace.{ReadPlace}
 -- A port reads the line at 40 (hexadecimal), loads from it and stores to it.
 abbrev pub loads_and_stores : List Event
 loads_and_stores =
-    Ar 0 0 0x40 1 1 0 false ∷ G 0 Read 0 ∷ R 0 0 0 false 0 ∷ R 0 0 0 false 0 ∷ R 0 0 0 false 0 ∷ R 0 0 0 true 0 ∷ Rk 0 UC
+    Ar 0 0 0x40 1 1 0 false ∷ G 0 Read 0 ∷ R 0 0 0 false 0 ∷ R 0 0 0 false 0
+    ∷ R 0 0 0 false 0 ∷ R 0 0 0 true 0 ∷ Rk 0 UC
     ∷ L 0 0x40 0 false 0 ∷ Op 0 0 Ok
-    ∷ D 0 0x40 0xffff false (record { words = 0x11111111111111111111111111111111 ∷ 0 ∷ 0 ∷ 0 ∷ [] }) ∷ Op 0 1 Ok ∷ Op 0 2 Skip ∷ []
+    ∷ D 0 0x40 0xffff false (record { words = 0x11111111111111111111111111111111 ∷ 0 ∷ 0 ∷ 0 ∷ [] })
+    ∷ Op 0 1 Ok ∷ Op 0 2 Skip ∷ []
 
 -- its one line, with its one store
 abbrev pub one_line : List LineOrder
@@ -29,7 +31,12 @@ worked_cert = record { lines = one_line; reads = two_reads }
 
 -- the read of the line is placed after its first beat
 abbrev pub placed_late : Cert
-placed_late = record { lines = one_line; reads = record { event = 1; place = 3 } ∷ record { event = 8; place = 7 } ∷ [] }
+placed_late =
+    record {
+      lines = one_line;
+      reads = record { event = 1; place = 3 }
+          ∷ record { event = 8; place = 7 } ∷ [];
+    }
 
 -- the store is left out
 abbrev pub without_store : Cert

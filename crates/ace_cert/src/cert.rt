@@ -20,8 +20,8 @@ pub struct ReadPlace {
     pub place: u32,
 }
 
-/// A certificate of a trace: the stores of each line that a transaction names, in order of address, and the place of each
-/// read, in the order of their events.
+/// A certificate of a trace: the stores of each line that a transaction names, in order of address,
+/// and the place of each read, in the order of their events.
 #[derive(Drop)]
 pub struct Cert {
     pub lines: LineList,

@@ -1,4 +1,5 @@
-//! What a certificate confirms, and how it is tested. These functions do no work: what they promise is the law.
+//! What a certificate confirms, and how it is tested. These functions do no work: what they promise
+//! is the law.
 
 ghost use Rattle.std.specs.Prelude.{◌↔◌};
 ghost use Rattle.ace_model.specs.Trace.{Trace};
@@ -12,7 +13,8 @@ pub fn a_certificate_orders_reads()
     ensures { (past : Trace) (cert : Cert) → IsCertificate past cert → ReadsFollow past }
 {}
 
-/// A certificate is one exactly where it passes the tests of its lines, of its reads, and of each event after those before it.
+/// A certificate is one exactly where it passes the tests of its lines, of its reads, and of each
+/// event after those before it.
 pub fn tests_are_exact()
     ensures { (past : Trace) (cert : Cert) → IsChecked past cert ↔ IsCertificate past cert }
 {}

@@ -1,5 +1,6 @@
-//! Order certificates: what names the stores of each line in their order and a place for each read, so that it can be
-//! confirmed without any rule that all reads of a trace follow one order of the stores.
+//! Order certificates: what names the stores of each line in their order and a place for each read,
+//! so that it can be confirmed without any rule that all reads of a trace follow one order of the
+//! stores.
 #![tactic(auto)]
 
 mod cert;

@@ -16,7 +16,8 @@ abbrev pub ComesTo : ℕ → Header → Trace → Event → Shares → Heard →
 ComesTo most h past e new Fine =
     (least_broken h past e ≡ None) × (goes_over_within most past e ≡ false)
     × SharesTell new h (e ∷ past)
-ComesTo most h past e new (Broken rule) = (least_broken h past e ≡ Some rule) × SharesTell new h past
+ComesTo most h past e new (Broken rule) =
+    (least_broken h past e ≡ Some rule) × SharesTell new h past
 ComesTo most h past e new TooManyLines =
     (least_broken h past e ≡ None) × (goes_over_within most past e ≡ true) × SharesTell new h past
 ComesTo most h past e new NoMemory =

@@ -40,8 +40,8 @@ abbrev pub MayLackMemory : Header → Trace → Event → Type 0
 MayLackMemory h past e = RisesAt past e ⊎ BeginsLine past e (target_of h past e) ⊎ IsNewLock past e
 
 -- the answer of a checker of at most so many lines is the one to this event: Fine where the event
--- breaks no rule and names no line too many; Broken with its number, from 1, and the least rule that
--- it breaks
+-- breaks no rule and names no line too many; Broken with its number, from 1, and the least rule
+-- that it breaks
 abbrev pub IsAnswerWithin : ℕ → Header → Trace → Event → Step → Type 0
 IsAnswerWithin most h past e Fine =
     (least_broken h past e ≡ None) × (goes_over_within most past e ≡ false)

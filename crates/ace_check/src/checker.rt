@@ -51,8 +51,8 @@ impl Checker {
     ghost use Rattle.ace_check.specs.Run.{Stands, StandsWithin, IsAnswerWithin, IsSound, goes_over_within, past_after, break_after, MayLackMemory};
     ghost use Rattle.ace_check.specs.Shares.{SharesTell};
 
-    /// The checker of the empty trace under this header, whose transactions may name 4,096 lines. Its
-    /// only refusal is `NoMemory`.
+    /// The checker of the empty trace under this header, whose transactions may name 4,096 lines.
+    /// Its only refusal is `NoMemory`.
     pub fn new(alloc: Global, header: Header) -> Result<Checker, CheckErr>
         requires { IsHeader header }
         ensures stands { IfOk result (λ c. Stands c header [] None) }
@@ -61,8 +61,8 @@ impl Checker {
         Checker::with_lines(alloc, header, MOST_LINES)
     }
 
-    /// The same, whose transactions may name at most so many lines. By `usize::MAX` there is no limit
-    /// but memory, since a trace of fewer than 2^64 - 1 events names fewer lines.
+    /// The same, whose transactions may name at most so many lines. By `usize::MAX` there is no
+    /// limit but memory, since a trace of fewer than 2^64 - 1 events names fewer lines.
     pub fn with_lines(alloc: Global, header: Header, most: usize) -> Result<Checker, CheckErr>
         requires { IsHeader header }
         ensures stands { IfOk result (λ c. StandsWithin most c header [] None) }
@@ -80,9 +80,9 @@ impl Checker {
 
     /// Looks at the next event of the trace, of fewer than 2^64 - 1. Where it breaks no rule, the
     /// checker stands for the longer trace. Where it breaks one, that break is the answer from then
-    /// on. `TooManyLines` comes exactly where the event breaks no rule and names a line too many, and
-    /// never from a checker of `usize::MAX` lines; `NoMemory` only where more snoops of a port are
-    /// under way than ever before, at the first transaction or MEM of a line, and at the first
+    /// on. `TooManyLines` comes exactly where the event breaks no rule and names a line too many,
+    /// and never from a checker of `usize::MAX` lines; `NoMemory` only where more snoops of a port
+    /// are under way than ever before, at the first transaction or MEM of a line, and at the first
     /// exclusive grant of a line. After either the checker stands where it did.
     #[inline(always)]
     pub fn feed(&mut self, event: &Event) -> Result<Step, CheckErr>

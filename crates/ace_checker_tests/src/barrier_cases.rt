@@ -6,7 +6,8 @@ use ace_codes::LineState::I;
 use ace_event::Channel::Read;
 use ace_event::Event;
 
-/// Halves of barriers: a pair that completes before the next begins, one of an ACE-Lite port, and what breaks a rule.
+/// Halves of barriers: a pair that completes before the next begins, one of an ACE-Lite port, and
+/// what breaks a rule.
 pub const BARRIER_ADDRESSES: &[Case] = &[
     alone!(
         TwoAce,
@@ -65,7 +66,8 @@ macro_rules! write_half {
     ($bar:expr) => { aw!(0, 1, 0, 0, 1, $bar) };
 }
 
-/// The answers to barriers, with nothing before them and after a read that isn't ordered or isn't complete.
+/// The answers to barriers, with nothing before them and after a read that isn't ordered or isn't
+/// complete.
 pub const BARRIER_ANSWERS: &[Case] = &[
     alone!(
         TwoAce,

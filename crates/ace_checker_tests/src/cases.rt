@@ -13,7 +13,8 @@ pub enum Ports {
     AceAndLite,
 }
 
-/// A trace, and its first break: the number of the event, from 1, and the least rule that it breaks.
+/// A trace, and its first break: the number of the event, from 1, and the least rule that it
+/// breaks.
 pub struct Case {
     pub ports: Ports,
     /// The events with which it begins.
@@ -77,7 +78,8 @@ macro_rules! rk {
 pub(crate) use rk;
 
 macro_rules! ac {
-    ($port:expr, $addr:expr, $snoop:expr) => { Event::Ac { port: $port, addr: $addr, snoop: $snoop } };
+    ($port:expr, $addr:expr, $snoop:expr)
+    => { Event::Ac { port: $port, addr: $addr, snoop: $snoop } };
 }
 
 pub(crate) use ac;

@@ -114,7 +114,8 @@ fn stays_broken(rt: HostRuntime) -> Result<(), Fail> {
     Ok(())
 }
 
-/// Port 0 reads so many lines, one after the other. How many the checker takes, and why not the next.
+/// Port 0 reads so many lines, one after the other. How many the checker takes, and why not the
+/// next.
 fn lines_taken(checker: &mut Checker, lines: u32) -> (u32, Option<CheckErr>) {
     for line in 0..lines {
         let id = (line % 256) as u8;

@@ -1,5 +1,5 @@
-//! Tests of the shares of the checker, of the checker over them, and of the report. They stand in a crate of their own, so that what they test is
-//! proved once.
+//! Tests of the shares of the checker, of the checker over them, and of the report. They stand in a
+//! crate of their own, so that what they test is proved once.
 #![tactic(auto)]
 
 #[cfg(test)]

@@ -1,4 +1,5 @@
-//! A line from its opening to a write-back, and events that break a rule on the way, as a reader of the rules finds them.
+//! A line from its opening to a write-back, and events that break a rule on the way, as a reader of
+//! the rules finds them.
 
 use ace_check::{Checker, Shares, Step};
 use ace_codes::LineState::{I, SD, UC, UD};
@@ -140,7 +141,8 @@ pub(crate) const WRITTEN: &[Event] = &[
 /// Port 1 ends its write.
 pub(crate) const ENDED: &[Event] = &[w!(true, 8), m!(STORED), RESPONSE, wk!(I)];
 
-/// After some events, which break no rule: events, each with the rule that it breaks. One that breaks none is taken.
+/// After some events, which break no rule: events, each with the rule that it breaks. One that
+/// breaks none is taken.
 struct Case {
     front: &'static [&'static [Event]],
     events: &'static [(Event, Option<u8>)],

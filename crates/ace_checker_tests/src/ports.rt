@@ -1,4 +1,5 @@
-// A trace of an ACE port and an ACE-Lite port, and events that break a rule at some point of it, written out by hand.
+// A trace of an ACE port and an ACE-Lite port, and events that break a rule at some point of it,
+// written out by hand.
 
 use ace_codes::{LineState, read_ar, read_aw};
 use ace_event::{Channel, Event, Header, Line, Outcome};
@@ -239,7 +240,8 @@ const LOAD: Event = Event::L {
 
 #[test]
 fn tells_progress(rt: HostRuntime) {
-    // after how many of them, the event, and its transaction's place, transfers, completion and grant
+    // after how many of them, the event, and its transaction's place, transfers, completion and
+    // grant
     let cases = [
         (1, READ[1], Some((0, 0, false, false))),
         (2, READ[2], Some((0, 0, false, true))),

@@ -1,4 +1,5 @@
-// Traces of barriers, DVM messages and exclusive transactions at two ACE ports, written out by hand.
+// Traces of barriers, DVM messages and exclusive transactions at two ACE ports, written out by
+// hand.
 
 use ace_codes::{ArKind, SnoopKind};
 use ace_event::{Channel, Event, Header};

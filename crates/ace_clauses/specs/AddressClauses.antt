@@ -1,6 +1,7 @@
--- The clauses of the rules of AR and AW, K1 to K10; K1 and K2 look at other records too. K4, K5, K6 and K8 have one clause, which
--- is the rule. A clause is asked only where the earlier ones of its rule hold, and may presume them: where a clause before it
--- asks whether there is something, a later one holds of events that have none.
+-- The clauses of the rules of AR and AW, K1 to K10; K1 and K2 look at other records too. K4, K5, K6
+-- and K8 have one clause, which is the rule. A clause is asked only where the earlier ones of its
+-- rule hold, and may presume them: where a clause before it asks whether there is something, a
+-- later one holds of events that have none.
 use Rattle.std.specs.Prelude.{Bool, true, false, not, ◌&&◌, ◌==◌, nat_lt, nat_le, length, take, is_some, is_none, Some}
 use Rattle.std.specs.List.{list_all}
 use Rattle.ace_codes.specs.declared.kind.AwKind.{AwKind}
@@ -36,7 +37,8 @@ k2a h past _ = true
 
 -- K2b: the port may issue that kind.
 abbrev pub k2b : Header → Trace → Event → Bool
-k2b h past (Ar p i addr snoop dom bar lock) = is_none_or (ar_kind_of snoop dom bar) (may_issue_read h p)
+k2b h past (Ar p i addr snoop dom bar lock) =
+    is_none_or (ar_kind_of snoop dom bar) (may_issue_read h p)
 k2b h past (Aw p i addr snoop dom bar) = is_none_or (aw_kind_of snoop dom bar) (may_issue_write h p)
 k2b h past _ = true
 
@@ -82,7 +84,8 @@ k3e h past _ = true
 
 -- K7a: of the kinds of an ACE port only ReadShared, ReadClean and CleanUnique are exclusive.
 abbrev pub is_exclusive_kind : Header → Transaction → Bool
-is_exclusive_kind h x = implies (x.lock && is_ace h x.port) (is_some_and (read_kind x) may_be_exclusive)
+is_exclusive_kind h x =
+    implies (x.lock && is_ace h x.port) (is_some_and (read_kind x) may_be_exclusive)
 
 abbrev pub k7a : Header → Trace → Event → Bool
 k7a h past e = is_none_or (issued (length past) e) (is_exclusive_kind h)
@@ -100,21 +103,26 @@ abbrev pub has_whole_pairs : Trace → Transaction → Bool
 has_whole_pairs past x = nat_le (number_of past x) (length (pairs past x.port))
 
 abbrev pub k9b : Header → Trace → Event → Bool
-k9b h past e = is_none_or (issued (length past) e) (λ x. implies (is_barrier_half x) (has_whole_pairs past x))
+k9b h past e =
+    is_none_or (issued (length past) e) (λ x. implies (is_barrier_half x) (has_whole_pairs past x))
 
 -- K9c: each earlier barrier pair of the port is answered.
 abbrev pub has_answered_pairs : Trace → Transaction → Bool
-has_answered_pairs past x = list_all (is_pair_complete past) (take (number_of past x) (pairs past x.port))
+has_answered_pairs past x =
+    list_all (is_pair_complete past) (take (number_of past x) (pairs past x.port))
 
 abbrev pub k9c : Header → Trace → Event → Bool
-k9c h past e = is_none_or (issued (length past) e) (λ x. implies (is_barrier_half x) (has_answered_pairs past x))
+k9c h past e =
+    is_none_or (issued (length past) e) (λ x. implies (is_barrier_half x)
+    (has_answered_pairs past x))
 
 -- K9d: the halves of a pair have one bar and domain.
 abbrev pub fits_partner : Trace → Transaction → Bool
 fits_partner past x = is_none_or (partner_of past x) (is_like_half x)
 
 abbrev pub k9d : Header → Trace → Event → Bool
-k9d h past e = is_none_or (issued (length past) e) (λ x. implies (is_barrier_half x) (fits_partner past x))
+k9d h past e =
+    is_none_or (issued (length past) e) (λ x. implies (is_barrier_half x) (fits_partner past x))
 
 -- the first part of a DVM message
 abbrev pub is_first_part : Trace → Transaction → Bool
@@ -122,37 +130,46 @@ is_first_part past x = is_message_part x && is_none (first_waiting past x.port)
 
 -- K9e: the word of a first part is one that means an operation.
 abbrev pub k9e : Header → Trace → Event → Bool
-k9e h past e = is_none_or (issued (length past) e) (λ x. implies (is_first_part past x) (is_message_word x.addr))
+k9e h past e =
+    is_none_or (issued (length past) e) (λ x. implies (is_first_part past x)
+    (is_message_word x.addr))
 
 -- K9f: a Sync comes after the completion of the port's last Sync.
 abbrev pub is_after_sync : Trace → Transaction → Bool
-is_after_sync past x = implies (is_sync_word x.addr && is_some (last_sync past x.port)) (is_sync_completed past x.port)
+is_after_sync past x =
+    implies (is_sync_word x.addr && is_some (last_sync past x.port)) (is_sync_completed past x.port)
 
 abbrev pub k9f : Header → Trace → Event → Bool
-k9f h past e = is_none_or (issued (length past) e) (λ x. implies (is_first_part past x) (is_after_sync past x))
+k9f h past e =
+    is_none_or (issued (length past) e) (λ x. implies (is_first_part past x) (is_after_sync past x))
 
 -- K9g: a second part of a DVM message has the domain and bar of its first.
 abbrev pub fits_first_part : Trace → Transaction → Bool
-fits_first_part past x = is_none_or (first_waiting past x.port) (λ first. is_part_in_order past x (Some first))
+fits_first_part past x =
+    is_none_or (first_waiting past x.port) (λ first. is_part_in_order past x (Some first))
 
 abbrev pub k9g : Header → Trace → Event → Bool
-k9g h past e = is_none_or (issued (length past) e) (λ x. implies (is_message_part x) (fits_first_part past x))
+k9g h past e =
+    is_none_or (issued (length past) e) (λ x. implies (is_message_part x) (fits_first_part past x))
 
 -- K9h: a DVM Complete has address 0.
 abbrev pub k9h : Header → Trace → Event → Bool
-k9h h past e = is_none_or (issued (length past) e) (λ x. implies (is_dvm_completion x) (x.addr == 0))
+k9h h past e =
+    is_none_or (issued (length past) e) (λ x. implies (is_dvm_completion x) (x.addr == 0))
 
--- the write that the event issues, if it is one whose kind passes the first test, finds no outstanding write of the port whose
--- kind passes the second
+-- the write that the event issues, if it is one whose kind passes the first test, finds no
+-- outstanding write of the port whose kind passes the second
 abbrev pub finds_none : Header → Trace → Event → (AwKind → Bool) → (AwKind → Bool) → Bool
 finds_none h past e comes waits =
     is_none_or (issued (length past) e)
     (λ x. is_none_or (write_kind x) (λ k. implies (comes k) (not (has_write h past x.port waits))))
 
--- K10a: a memory update or Evict is issued with no WriteUnique or WriteLineUnique of the port outstanding.
+-- K10a: a memory update or Evict is issued with no WriteUnique or WriteLineUnique of the port
+-- outstanding.
 abbrev pub k10a : Header → Trace → Event → Bool
 k10a h past e = finds_none h past e gives_up is_unique_write
 
--- K10b: a WriteUnique or WriteLineUnique is issued with no memory update or Evict of the port outstanding.
+-- K10b: a WriteUnique or WriteLineUnique is issued with no memory update or Evict of the port
+-- outstanding.
 abbrev pub k10b : Header → Trace → Event → Bool
 k10b h past e = finds_none h past e is_unique_write gives_up

@@ -1,5 +1,5 @@
--- For each clause of these rules a short trace, the oldest event first, whose last event is its first break and breaks this clause: what
--- stands above it is not so.
+-- For each clause of these rules a short trace, the oldest event first, whose last event is its
+-- first break and breaks this clause: what stands above it is not so.
 use Rattle.std.specs.Prelude.{true, false, List, [], ◌∷◌}
 use Rattle.ace_codes.specs.declared.state.LineState.TheVariants.{I, UC, UD}
 use Rattle.ace_event.specs.declared.event.Channel.TheVariants.{Read}
@@ -72,7 +72,8 @@ breaks_k5a =
 -- the port's state of the line is a start state of the kind
 abbrev pub breaks_k6a : List Event
 breaks_k6a =
-    Ar 0 0 0x40 7 1 0 false ∷ G 0 Read 0 ∷ R 0 0 0 false 0 ∷ R 0 0 0 false 0 ∷ R 0 0 0 false 0 ∷ R 0 0 0 true 0 ∷ Rk 0 UC
+    Ar 0 0 0x40 7 1 0 false ∷ G 0 Read 0 ∷ R 0 0 0 false 0 ∷ R 0 0 0 false 0
+    ∷ R 0 0 0 false 0 ∷ R 0 0 0 true 0 ∷ Rk 0 UC
     ∷ Ar 0 0 0x40 7 1 0 false ∷ []
 
 -- only ReadShared, ReadClean and CleanUnique are exclusive
@@ -133,11 +134,13 @@ breaks_k9h =
 -- a memory update or Evict is issued with no WriteUnique or WriteLineUnique of the port outstanding
 abbrev pub breaks_k10a : List Event
 breaks_k10a =
-    Ar 0 0 0x40 0xc 1 0 false ∷ G 0 Read 0 ∷ R 0 0 0 true 0 ∷ D 0 0x40 full_line false (line_of (filled 0x11)) ∷ Rk 0 UD
+    Ar 0 0 0x40 0xc 1 0 false ∷ G 0 Read 0 ∷ R 0 0 0 true 0
+    ∷ D 0 0x40 full_line false (line_of (filled 0x11)) ∷ Rk 0 UD
     ∷ Aw 0 1 0x80 0 1 0 ∷ Aw 0 0 0x40 3 1 0 ∷ []
 
 -- a WriteUnique or WriteLineUnique is issued with no memory update or Evict of the port outstanding
 abbrev pub breaks_k10b : List Event
 breaks_k10b =
-    Ar 0 0 0x40 0xc 1 0 false ∷ G 0 Read 0 ∷ R 0 0 0 true 0 ∷ D 0 0x40 full_line false (line_of (filled 0x11)) ∷ Rk 0 UD
+    Ar 0 0 0x40 0xc 1 0 false ∷ G 0 Read 0 ∷ R 0 0 0 true 0
+    ∷ D 0 0x40 full_line false (line_of (filled 0x11)) ∷ Rk 0 UD
     ∷ Aw 0 0 0x40 3 1 0 ∷ Aw 0 1 0x80 0 1 0 ∷ []

@@ -1,5 +1,5 @@
--- The clauses of the rules of what a master does with the lines that it holds, K29 to K33. K30 and K31 have one clause, which is the
--- rule. A clause may presume the earlier ones of its rule.
+-- The clauses of the rules of what a master does with the lines that it holds, K29 to K33. K30 and
+-- K31 have one clause, which is the rule. A clause may presume the earlier ones of its rule.
 use Rattle.std.specs.Prelude.{ℕ, Bool, true, false, not, ◌&&◌, ◌||◌, ◌==◌, if◌then◌else◌, [], ◌∷◌, Option, Some, None, is_some}
 use Rattle.ace_event.specs.declared.event.Event.{Event}
 use Rattle.ace_event.specs.declared.event.Event.TheVariants.{S, L, D}
@@ -23,19 +23,23 @@ abbrev pub k29b : Header → Trace → Event → Bool
 k29b h past (S p addr st) = not (is_invalid st && has_update h past p addr)
 k29b h past _ = true
 
--- K32a: the port of a D holds the line in UC or UD, unless a MakeUnique of it on the line waits for its end.
+-- K32a: the port of a D holds the line in UC or UD, unless a MakeUnique of it on the line waits for
+-- its end.
 abbrev pub k32a : Header → Trace → Event → Bool
-k32a h past (D p addr strobe x line) = is_in_make_unique h past p addr || is_unique (state_of h past p addr)
+k32a h past (D p addr strobe x line) =
+    is_in_make_unique h past p addr || is_unique (state_of h past p addr)
 k32a h past _ = true
 
 -- K32b: no transaction of the port on the line is outstanding, unless it is such a MakeUnique.
 abbrev pub k32b : Header → Trace → Event → Bool
-k32b h past (D p addr strobe x line) = is_in_make_unique h past p addr || not (has_outstanding_on h past p addr)
+k32b h past (D p addr strobe x line) =
+    is_in_make_unique h past p addr || not (has_outstanding_on h past p addr)
 k32b h past _ = true
 
 -- K32c: such a MakeUnique has one store.
 abbrev pub k32c : Header → Trace → Event → Bool
-k32c h past (D p addr strobe x line) = implies (is_in_make_unique h past p addr) (wants_store h past p addr)
+k32c h past (D p addr strobe x line) =
+    implies (is_in_make_unique h past p addr) (wants_store h past p addr)
 k32c h past _ = true
 
 -- K32d: the store of a MakeUnique isn't exclusive.
@@ -45,13 +49,15 @@ k32d h past _ = true
 
 -- K32e: the store of a MakeUnique writes the whole line.
 abbrev pub k32e : Header → Trace → Event → Bool
-k32e h past (D p addr strobe x line) = implies (is_in_make_unique h past p addr) (strobe == full_line)
+k32e h past (D p addr strobe x line) =
+    implies (is_in_make_unique h past p addr) (strobe == full_line)
 k32e h past _ = true
 
 -- the line of the port's last exclusive load
 abbrev pub last_exclusive_load : Trace → ℕ → Option ℕ
 last_exclusive_load [] p = None
-last_exclusive_load (L q addr w x word ∷ past) p = if (p == q) && x then Some addr else last_exclusive_load past p
+last_exclusive_load (L q addr w x word ∷ past) p =
+    if (p == q) && x then Some addr else last_exclusive_load past p
 last_exclusive_load (_ ∷ past) p = last_exclusive_load past p
 
 -- the port has made an exclusive store since its last exclusive load
@@ -70,7 +76,8 @@ is_exclusive_load _ p = false
 abbrev pub has_held_since : Header → Trace → ℕ → ℕ → Bool
 has_held_since h [] p l = false
 has_held_since h (e ∷ past) p l =
-    (is_exclusive_load e p || has_held_since h past p l) && not (is_invalid (state_of h (e ∷ past) p l))
+    (is_exclusive_load e p || has_held_since h past p l)
+    && not (is_invalid (state_of h (e ∷ past) p l))
 
 -- K33a: the port of a D with x 1 has made an exclusive load.
 abbrev pub k33a : Header → Trace → Event → Bool
@@ -79,7 +86,8 @@ k33a h past _ = true
 
 -- K33b: its last exclusive load was of this line.
 abbrev pub k33b : Header → Trace → Event → Bool
-k33b h past (D p addr strobe x line) = implies x (is_none_or (last_exclusive_load past p) (λ loaded. addr == loaded))
+k33b h past (D p addr strobe x line) =
+    implies x (is_none_or (last_exclusive_load past p) (λ loaded. addr == loaded))
 k33b h past _ = true
 
 -- K33c: it has made no exclusive store since.

@@ -1,6 +1,7 @@
--- The clauses of the forty rules. A rule is a sentence of several parts, its clauses, in the order in which they are asked: an event
--- keeps the rule where every clause holds of it, and an event that breaks it is told by the first that is false. So a clause is
--- asked only where the earlier ones of its rule hold.
+-- The clauses of the forty rules. A rule is a sentence of several parts, its clauses, in the order
+-- in which they are asked: an event keeps the rule where every clause holds of it, and an event
+-- that breaks it is told by the first that is false. So a clause is asked only where the earlier
+-- ones of its rule hold.
 use Rattle.std.specs.Prelude.{ℕ, Bool, true, ◌&&◌, ◌==◌, if◌then◌else◌, List, [], ◌∷◌, Option, Some, None}
 use Rattle.ace_event.specs.declared.event.Event.{Event}
 use Rattle.ace_event.specs.declared.header.Header.{Header}
@@ -41,28 +42,34 @@ abbrev pub clauses : List RuleClauses
 clauses =
     clauses_of_rule 1 (clause A k1a ∷ clause B k1b ∷ [])
     ∷ clauses_of_rule 2 (clause A k2a ∷ clause B k2b ∷ clause C k2c ∷ clause D k2d ∷ [])
-    ∷ clauses_of_rule 3 (clause A k3a ∷ clause B k3b ∷ clause C k3c ∷ clause D k3d ∷ clause E k3e ∷ [])
+    ∷ clauses_of_rule 3 (clause A k3a ∷ clause B k3b ∷ clause C k3c
+    ∷ clause D k3d ∷ clause E k3e ∷ [])
     ∷ clauses_of_rule 4 (clause A k4 ∷ [])
     ∷ clauses_of_rule 5 (clause A k5 ∷ [])
     ∷ clauses_of_rule 6 (clause A k6 ∷ [])
     ∷ clauses_of_rule 7 (clause A k7a ∷ clause B k7b ∷ [])
     ∷ clauses_of_rule 8 (clause A k8 ∷ [])
-    ∷ clauses_of_rule 9 (clause A k9a ∷ clause B k9b ∷ clause C k9c ∷ clause D k9d ∷ clause E k9e ∷ clause F k9f ∷ clause G k9g ∷ clause H k9h ∷ [])
+    ∷ clauses_of_rule 9 (clause A k9a ∷ clause B k9b ∷ clause C k9c
+    ∷ clause D k9d ∷ clause E k9e ∷ clause F k9f ∷ clause G k9g ∷ clause H k9h ∷ [])
     ∷ clauses_of_rule 10 (clause A k10a ∷ clause B k10b ∷ [])
     ∷ clauses_of_rule 11 (clause A k11a ∷ clause B k11b ∷ clause C k11c ∷ clause D k11d ∷ [])
     ∷ clauses_of_rule 12 (clause A k12a ∷ clause B k12b ∷ clause C k12c ∷ clause D k12d ∷ [])
-    ∷ clauses_of_rule 13 (clause A k13a ∷ clause B k13b ∷ clause C k13c ∷ clause D k13d ∷ clause E k13e ∷ clause F k13f ∷ clause G k13g ∷ [])
+    ∷ clauses_of_rule 13 (clause A k13a ∷ clause B k13b ∷ clause C k13c
+    ∷ clause D k13d ∷ clause E k13e ∷ clause F k13f ∷ clause G k13g ∷ [])
     ∷ clauses_of_rule 14 (clause A k14 ∷ [])
     ∷ clauses_of_rule 15 (clause A k15a ∷ clause B k15b ∷ clause C k15c ∷ clause D k15d ∷ [])
     ∷ clauses_of_rule 16 (clause A k16a ∷ clause B k16b ∷ clause C k16c ∷ [])
     ∷ clauses_of_rule 17 (clause A k17a ∷ clause B k17b ∷ clause C k17c ∷ [])
-    ∷ clauses_of_rule 18 (clause A k18a ∷ clause B k18b ∷ clause C k18c ∷ clause D k18d ∷ clause E k18e ∷ clause F k18f ∷ clause G k18g ∷ clause H k18h ∷ clause I k18i ∷ [])
-    ∷ clauses_of_rule 19 (clause A k19a ∷ clause B k19b ∷ clause C k19c ∷ clause D k19d ∷ clause E k19e ∷ clause F k19f ∷ [])
+    ∷ clauses_of_rule 18 (clause A k18a ∷ clause B k18b ∷ clause C k18c ∷ clause D k18d
+    ∷ clause E k18e ∷ clause F k18f ∷ clause G k18g ∷ clause H k18h ∷ clause I k18i ∷ [])
+    ∷ clauses_of_rule 19 (clause A k19a ∷ clause B k19b ∷ clause C k19c
+    ∷ clause D k19d ∷ clause E k19e ∷ clause F k19f ∷ [])
     ∷ clauses_of_rule 20 (clause A k20a ∷ clause B k20b ∷ [])
     ∷ clauses_of_rule 21 (clause A k21a ∷ clause B k21b ∷ clause C k21c ∷ [])
     ∷ clauses_of_rule 22 (clause A k22 ∷ [])
     ∷ clauses_of_rule 23 (clause A k23a ∷ clause B k23b ∷ clause C k23c ∷ [])
-    ∷ clauses_of_rule 24 (clause A k24a ∷ clause B k24b ∷ clause C k24c ∷ clause D k24d ∷ clause E k24e ∷ clause F k24f ∷ clause G k24g ∷ clause H k24h ∷ clause I k24i ∷ [])
+    ∷ clauses_of_rule 24 (clause A k24a ∷ clause B k24b ∷ clause C k24c ∷ clause D k24d
+    ∷ clause E k24e ∷ clause F k24f ∷ clause G k24g ∷ clause H k24h ∷ clause I k24i ∷ [])
     ∷ clauses_of_rule 25 (clause A k25a ∷ clause B k25b ∷ clause C k25c ∷ clause D k25d ∷ [])
     ∷ clauses_of_rule 26 (clause A k26a ∷ clause B k26b ∷ clause C k26c ∷ [])
     ∷ clauses_of_rule 27 (clause A k27 ∷ [])
@@ -70,14 +77,16 @@ clauses =
     ∷ clauses_of_rule 29 (clause A k29a ∷ clause B k29b ∷ [])
     ∷ clauses_of_rule 30 (clause A k30 ∷ [])
     ∷ clauses_of_rule 31 (clause A k31 ∷ [])
-    ∷ clauses_of_rule 32 (clause A k32a ∷ clause B k32b ∷ clause C k32c ∷ clause D k32d ∷ clause E k32e ∷ [])
+    ∷ clauses_of_rule 32 (clause A k32a ∷ clause B k32b ∷ clause C k32c
+    ∷ clause D k32d ∷ clause E k32e ∷ [])
     ∷ clauses_of_rule 33 (clause A k33a ∷ clause B k33b ∷ clause C k33c ∷ clause D k33d ∷ [])
     ∷ clauses_of_rule 34 (clause A k34a ∷ clause B k34b ∷ clause C k34c ∷ [])
     ∷ clauses_of_rule 35 (clause A k35 ∷ [])
     ∷ clauses_of_rule 36 (clause A k36a ∷ clause B k36b ∷ clause C k36c ∷ [])
     ∷ clauses_of_rule 37 (clause A k37a ∷ clause B k37b ∷ [])
     ∷ clauses_of_rule 38 (clause A k38 ∷ [])
-    ∷ clauses_of_rule 39 (clause A k39a ∷ clause B k39b ∷ clause C k39c ∷ clause D k39d ∷ clause E k39e ∷ [])
+    ∷ clauses_of_rule 39 (clause A k39a ∷ clause B k39b ∷ clause C k39c
+    ∷ clause D k39d ∷ clause E k39e ∷ [])
     ∷ clauses_of_rule 40 (clause A k40 ∷ [])
     ∷ []
 

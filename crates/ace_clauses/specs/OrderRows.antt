@@ -1,5 +1,5 @@
--- For each clause of these rules a short trace, the oldest event first, whose last event is its first break and breaks this clause: what
--- stands above it is not so.
+-- For each clause of these rules a short trace, the oldest event first, whose last event is its
+-- first break and breaks this clause: what stands above it is not so.
 use Rattle.std.specs.Prelude.{true, false, List, [], ◌∷◌}
 use Rattle.ace_codes.specs.declared.state.LineState.TheVariants.{I}
 use Rattle.ace_event.specs.declared.event.Channel.TheVariants.{Read}
@@ -30,7 +30,8 @@ breaks_k35a =
 -- the second part of a message follows the first
 abbrev pub breaks_k36a : List Event
 breaks_k36a =
-    Ar 0 2 0x40 1 1 0 false ∷ G 0 Read 2 ∷ Ar 0 0 0x1001 0xf 1 0 false ∷ Ar 0 1 0x12345678 0xf 1 0 false ∷ Ac 1 0x1001 0xf
+    Ar 0 2 0x40 1 1 0 false ∷ G 0 Read 2 ∷ Ar 0 0 0x1001 0xf 1 0 false
+    ∷ Ar 0 1 0x12345678 0xf 1 0 false ∷ Ac 1 0x1001 0xf
     ∷ Ac 1 0x40 1 ∷ []
 
 -- some message of another port waits for this port
@@ -76,13 +77,15 @@ breaks_k39c =
 -- its Sync is not completed yet
 abbrev pub breaks_k39d : List Event
 breaks_k39d =
-    Ar 0 0 0xc000 0xf 1 0 false ∷ Ac 1 0xc000 0xf ∷ Cr 1 0 I ∷ R 0 0 0 true 0 ∷ Ar 1 0 0 0xe 1 0 false ∷ Ac 0 0 0xe
+    Ar 0 0 0xc000 0xf 1 0 false ∷ Ac 1 0xc000 0xf ∷ Cr 1 0 I ∷ R 0 0 0 true 0
+    ∷ Ar 1 0 0 0xe 1 0 false ∷ Ac 0 0 0xe
     ∷ Ac 0 0 0xe ∷ []
 
 -- each other ACE port has issued its DVM Complete for it
 abbrev pub breaks_k39e : List Event
 breaks_k39e =
-    Ar 0 0 0xc000 0xf 1 0 false ∷ Ac 1 0xc000 0xf ∷ Ac 2 0xc000 0xf ∷ Cr 1 0 I ∷ Cr 2 0 I ∷ R 0 0 0 true 0 ∷ Ac 0 0 0xe ∷ []
+    Ar 0 0 0xc000 0xf 1 0 false ∷ Ac 1 0xc000 0xf ∷ Ac 2 0xc000 0xf
+    ∷ Cr 1 0 I ∷ Cr 2 0 I ∷ R 0 0 0 true 0 ∷ Ac 0 0 0xe ∷ []
 
 -- the number is that of the earlier operations of the port
 abbrev pub breaks_k40a : List Event

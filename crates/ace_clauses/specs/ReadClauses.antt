@@ -1,5 +1,5 @@
--- The clauses of the rules of R and RK, K18 to K23. K22 has one clause, which is the rule. A clause may presume the earlier ones of
--- its rule.
+-- The clauses of the rules of R and RK, K18 to K23. K22 has one clause, which is the rule. A clause
+-- may presume the earlier ones of its rule.
 use Rattle.std.specs.Prelude.{ℕ, ◌+◌, Bool, true, not, ◌&&◌, ◌||◌, ◌==◌, nat_lt, is_some, is_none}
 use Rattle.std.specs.List.{list_all}
 use Rattle.ace_codes.specs.declared.kind.ArKind.{ArKind}
@@ -30,10 +30,12 @@ k18a h past _ = true
 
 -- K18b: the read has transfers left.
 abbrev pub has_transfers_left : Trace → Transaction → Bool
-has_transfers_left past x = is_some_and (read_kind x) (λ k. nat_lt (transfers past x.port x.id) (beats_of k))
+has_transfers_left past x =
+    is_some_and (read_kind x) (λ k. nat_lt (transfers past x.port x.id) (beats_of k))
 
 abbrev pub k18b : Header → Trace → Event → Bool
-k18b h past (R p i resp last word) = is_none_or (outstanding h past p Read i) (has_transfers_left past)
+k18b h past (R p i resp last word) =
+    is_none_or (outstanding h past p Read i) (has_transfers_left past)
 k18b h past _ = true
 
 -- K18c: RLAST is 1 exactly on the last transfer.
@@ -42,7 +44,8 @@ is_last_transfer past x k = transfers past x.port x.id + 1 == beats_of k
 
 abbrev pub k18c : Header → Trace → Event → Bool
 k18c h past (R p i resp last word) =
-    is_none_or (outstanding h past p Read i) (λ x. is_none_or (read_kind x) (λ k. same_test last (is_last_transfer past x k)))
+    is_none_or (outstanding h past p Read i) (λ x. is_none_or (read_kind x)
+    (λ k. same_test last (is_last_transfer past x k)))
 k18c h past _ = true
 
 -- K18d: a line read is granted.
@@ -51,9 +54,11 @@ k18d h past (R p i resp last word) =
     is_none_or (outstanding h past p Read i) (λ x. implies (is_line x) (is_granted h past x))
 k18d h past _ = true
 
--- the test holds of the transaction and each port, where the transaction causes snoops and is no exclusive store that failed
+-- the test holds of the transaction and each port, where the transaction causes snoops and is no
+-- exclusive store that failed
 abbrev pub at_each_port : Header → Trace → Transaction → (ℕ → Bool) → Bool
-at_each_port h past x test = is_none (snoop_of x) || has_failed past x || list_all test (ports_below h.ports)
+at_each_port h past x test =
+    is_none (snoop_of x) || has_failed past x || list_all test (ports_below h.ports)
 
 -- each snoop under the transaction's grant is answered
 abbrev pub are_snoops_answered : Header → Trace → Transaction → Bool
@@ -66,7 +71,8 @@ are_snoop_data_whole h past x = at_each_port h past x (λ q. not (owes_data past
 -- the port is the transaction's own, or has no copy of the line, or was snooped under the grant
 abbrev pub needs_no_snoop : Header → Trace → Transaction → ℕ → Bool
 needs_no_snoop h past x q =
-    (q == x.port) || not (is_ace h q) || is_invalid (state_of h past q x.addr) || was_snooped past q x.addr
+    (q == x.port) || not (is_ace h q) || is_invalid (state_of h past q x.addr)
+    || was_snooped past q x.addr
 
 -- each other ACE port that holds the line was snooped under the grant
 abbrev pub are_holders_snooped : Header → Trace → Transaction → Bool
@@ -79,33 +85,39 @@ begins_line_read past x = is_line x && (transfers past x.port x.id == 0)
 -- K18e: at the first transfer of a line read each snoop is answered.
 abbrev pub k18e : Header → Trace → Event → Bool
 k18e h past (R p i resp last word) =
-    is_none_or (outstanding h past p Read i) (λ x. implies (begins_line_read past x) (are_snoops_answered h past x))
+    is_none_or (outstanding h past p Read i) (λ x. implies (begins_line_read past x)
+    (are_snoops_answered h past x))
 k18e h past _ = true
 
--- K18f: at the first transfer the announced snoop data are whole, and at each transfer the passed data are.
+-- K18f: at the first transfer the announced snoop data are whole, and at each transfer the passed
+-- data are.
 abbrev pub has_whole_data : Header → Trace → Transaction → Bool
 has_whole_data h past x =
     implies (begins_line_read past x) (are_snoop_data_whole h past x)
     && implies (is_line x && has_passed_data h past x) (are_passed_data_whole h past x)
 
 abbrev pub k18f : Header → Trace → Event → Bool
-k18f h past (R p i resp last word) = is_none_or (outstanding h past p Read i) (has_whole_data h past)
+k18f h past (R p i resp last word) =
+    is_none_or (outstanding h past p Read i) (has_whole_data h past)
 k18f h past _ = true
 
 -- K18g: at the first transfer each other holder was snooped.
 abbrev pub k18g : Header → Trace → Event → Bool
 k18g h past (R p i resp last word) =
-    is_none_or (outstanding h past p Read i) (λ x. implies (begins_line_read past x) (are_holders_snooped h past x))
+    is_none_or (outstanding h past p Read i) (λ x. implies (begins_line_read past x)
+    (are_holders_snooped h past x))
 k18g h past _ = true
 
 -- the test holds of a line read that has passed data
 abbrev pub with_passed_data : Header → Trace → (Transaction → Bool) → Transaction → Bool
 with_passed_data h past test x = implies (is_line x && has_passed_data h past x) (test x)
 
--- K18h: passed data, which an M hasn't written to memory, are taken by a ReadShared, ReadNotSharedDirty or ReadUnique.
+-- K18h: passed data, which an M hasn't written to memory, are taken by a ReadShared,
+-- ReadNotSharedDirty or ReadUnique.
 abbrev pub k18h : Header → Trace → Event → Bool
 k18h h past (R p i resp last word) =
-    is_none_or (outstanding h past p Read i) (with_passed_data h past (λ x. is_some_and (read_kind x) takes_passed_data))
+    is_none_or (outstanding h past p Read i) (with_passed_data h past
+    (λ x. is_some_and (read_kind x) takes_passed_data))
 k18h h past _ = true
 
 -- K18i: PassDirty is 1 where data were passed.
@@ -117,13 +129,15 @@ k18i h past _ = true
 -- K19a: PassDirty is 0 where no data were passed.
 abbrev pub k19a : Header → Trace → Event → Bool
 k19a h past (R p i resp last word) =
-    is_none_or (outstanding h past p Read i) (λ x. implies (passes_dirty resp) (has_passed_data h past x))
+    is_none_or (outstanding h past p Read i) (λ x. implies (passes_dirty resp)
+    (has_passed_data h past x))
 k19a h past _ = true
 
 -- K19b: IsShared is 0 for kinds that keep no shared line.
 abbrev pub k19b : Header → Trace → Event → Bool
 k19b h past (R p i resp last word) =
-    is_none_or (outstanding h past p Read i) (λ x. is_none_or (read_kind x) (λ k. implies (is_shared resp) (may_be_shared k)))
+    is_none_or (outstanding h past p Read i) (λ x. is_none_or (read_kind x)
+    (λ k. implies (is_shared resp) (may_be_shared k)))
 k19b h past _ = true
 
 -- K19c: a ReadNotSharedDirty has not both bits.
@@ -138,10 +152,12 @@ k19c h past _ = true
 -- K19d: an ACE-Lite port has neither bit.
 abbrev pub k19d : Header → Trace → Event → Bool
 k19d h past (R p i resp last word) =
-    is_none_or (outstanding h past p Read i) (λ x. implies (passes_dirty resp || is_shared resp) (is_ace h x.port))
+    is_none_or (outstanding h past p Read i) (λ x. implies (passes_dirty resp || is_shared resp)
+    (is_ace h x.port))
 k19d h past _ = true
 
--- K19e: IsShared is 1 where an answer under the grant has it, at an ACE port and for a kind that may be told.
+-- K19e: IsShared is 1 where an answer under the grant has it, at an ACE port and for a kind that
+-- may be told.
 abbrev pub k19e : Header → Trace → Event → Bool
 k19e h past (R p i resp last word) =
     is_none_or (outstanding h past p Read i)
@@ -151,13 +167,15 @@ k19e h past _ = true
 -- K19f: each transfer has the two bits of the first.
 abbrev pub k19f : Header → Trace → Event → Bool
 k19f h past (R p i resp last word) =
-    is_none_or (outstanding h past p Read i) (λ x. is_none_or (first_resp past x.port x.id) (same_upper_bits resp))
+    is_none_or (outstanding h past p Read i) (λ x. is_none_or (first_resp past x.port x.id)
+    (same_upper_bits resp))
 k19f h past _ = true
 
 -- K20a: a dataless transfer has the word 0.
 abbrev pub k20a : Header → Trace → Event → Bool
 k20a h past (R p i resp last word) =
-    is_none_or (outstanding h past p Read i) (λ x. implies (not (is_line_read_transaction x)) (word == 0))
+    is_none_or (outstanding h past p Read i)
+    (λ x. implies (not (is_line_read_transaction x)) (word == 0))
 k20a h past _ = true
 
 -- K20b: a beat of a line has the word of the reply.
@@ -166,13 +184,15 @@ is_word_of_reply past word x = word == word_of (reply_of past x) (transfers past
 
 abbrev pub k20b : Header → Trace → Event → Bool
 k20b h past (R p i resp last word) =
-    is_none_or (outstanding h past p Read i) (λ x. implies (is_line_read_transaction x) (is_word_of_reply past word x))
+    is_none_or (outstanding h past p Read i) (λ x. implies (is_line_read_transaction x)
+    (is_word_of_reply past word x))
 k20b h past _ = true
 
 -- K21a: EXOKAY for an exclusive load and for an exclusive store that passed.
 abbrev pub k21a : Header → Trace → Event → Bool
 k21a h past (R p i resp last word) =
-    is_none_or (outstanding h past p Read i) (λ x. implies (is_exclusive_okay past x) (low_bits resp == 1))
+    is_none_or (outstanding h past p Read i) (λ x. implies (is_exclusive_okay past x)
+    (low_bits resp == 1))
 k21a h past _ = true
 
 -- K21b: OKAY for an exclusive store that didn't pass.
@@ -190,10 +210,11 @@ k21c h past _ = true
 
 -- the test holds of the read that an RK acknowledges, and of its kind
 abbrev pub is_acknowledged : Trace → ℕ → (Transaction → ArKind → Bool) → Bool
-is_acknowledged past p test = is_none_or (acknowledged past p Read) (λ x. is_none_or (read_kind x) (test x))
+is_acknowledged past p test =
+    is_none_or (acknowledged past p Read) (λ x. is_none_or (read_kind x) (test x))
 
--- the state is an end state of the read, by the state that the port holds, by PassDirty and IsShared, and by whether it is an
--- exclusive store that failed
+-- the state is an end state of the read, by the state that the port holds, by PassDirty and
+-- IsShared, and by whether it is an exclusive store that failed
 abbrev pub ends_in : Header → Trace → LineState → Transaction → ArKind → Bool
 ends_in h past st x k =
     ends_read k (held_of h past x) (is_some_and (first_resp past x.port x.id) is_shared)
@@ -201,15 +222,18 @@ ends_in h past st x k =
 
 -- K23a: the state of an RK is an end state of the line read.
 abbrev pub k23a : Header → Trace → Event → Bool
-k23a h past (Rk p st) = is_acknowledged past p (λ x k. implies (is_line_read k) (ends_in h past st x k))
+k23a h past (Rk p st) =
+    is_acknowledged past p (λ x k. implies (is_line_read k) (ends_in h past st x k))
 k23a h past _ = true
 
 -- K23b: a MakeUnique has had its store.
 abbrev pub k23b : Header → Trace → Event → Bool
-k23b h past (Rk p st) = is_acknowledged past p (λ x k. implies (is_make_unique k) (has_store h past x.port x.id))
+k23b h past (Rk p st) =
+    is_acknowledged past p (λ x k. implies (is_make_unique k) (has_store h past x.port x.id))
 k23b h past _ = true
 
 -- K23c: a barrier or DVM transaction ends in its one end state, I.
 abbrev pub k23c : Header → Trace → Event → Bool
-k23c h past (Rk p st) = is_acknowledged past p (λ x k. implies (not (is_line_read k)) (ends_in h past st x k))
+k23c h past (Rk p st) =
+    is_acknowledged past p (λ x k. implies (not (is_line_read k)) (ends_in h past st x k))
 k23c h past _ = true

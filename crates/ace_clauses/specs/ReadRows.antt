@@ -1,5 +1,5 @@
--- For each clause of these rules a short trace, the oldest event first, whose last event is its first break and breaks this clause: what
--- stands above it is not so.
+-- For each clause of these rules a short trace, the oldest event first, whose last event is its
+-- first break and breaks this clause: what stands above it is not so.
 use Rattle.std.specs.Prelude.{true, false, List, [], ◌∷◌}
 use Rattle.ace_codes.specs.declared.state.LineState.TheVariants.{I, SC, UC, UD}
 use Rattle.ace_event.specs.declared.event.Channel.TheVariants.{Read}
@@ -36,27 +36,35 @@ breaks_k18e =
 -- the announced snoop data are whole
 abbrev pub breaks_k18f : List Event
 breaks_k18f =
-    Ar 1 0 0x40 0xc 1 0 false ∷ G 1 Read 0 ∷ R 1 0 0 true 0 ∷ D 1 0x40 full_line false (line_of (filled 0x11)) ∷ Rk 1 UD
-    ∷ Ar 0 0 0x40 7 1 0 false ∷ G 0 Read 0 ∷ Ac 1 0x40 7 ∷ Cr 1 5 I ∷ R 0 0 4 false (filled 0x11) ∷ []
+    Ar 1 0 0x40 0xc 1 0 false ∷ G 1 Read 0 ∷ R 1 0 0 true 0
+    ∷ D 1 0x40 full_line false (line_of (filled 0x11)) ∷ Rk 1 UD
+    ∷ Ar 0 0 0x40 7 1 0 false ∷ G 0 Read 0 ∷ Ac 1 0x40 7 ∷ Cr 1 5 I
+    ∷ R 0 0 4 false (filled 0x11) ∷ []
 
 -- at the first transfer each other holder was snooped
 abbrev pub breaks_k18g : List Event
 breaks_k18g =
-    Ar 0 0 0x40 7 1 0 false ∷ G 0 Read 0 ∷ R 0 0 0 false 0 ∷ R 0 0 0 false 0 ∷ R 0 0 0 false 0 ∷ R 0 0 0 true 0 ∷ Rk 0 UC
+    Ar 0 0 0x40 7 1 0 false ∷ G 0 Read 0 ∷ R 0 0 0 false 0 ∷ R 0 0 0 false 0
+    ∷ R 0 0 0 false 0 ∷ R 0 0 0 true 0 ∷ Rk 0 UC
     ∷ Ar 1 0 0x40 7 1 0 false ∷ G 1 Read 0 ∷ R 1 0 0 false 0 ∷ []
 
--- passed data are taken by a ReadShared, ReadNotSharedDirty or ReadUnique, or were written to memory
+-- passed data are taken by a ReadShared, ReadNotSharedDirty or ReadUnique, or were written to
+-- memory
 abbrev pub breaks_k18h : List Event
 breaks_k18h =
-    Ar 1 0 0x40 0xc 1 0 false ∷ G 1 Read 0 ∷ R 1 0 0 true 0 ∷ D 1 0x40 full_line false (line_of (filled 0x11)) ∷ Rk 1 UD
-    ∷ Ar 0 0 0x40 0 1 0 false ∷ G 0 Read 0 ∷ Ac 1 0x40 0 ∷ Cr 1 5 I ∷ Cd 1 false (filled 0x11) ∷ Cd 1 false (filled 0x11)
+    Ar 1 0 0x40 0xc 1 0 false ∷ G 1 Read 0 ∷ R 1 0 0 true 0
+    ∷ D 1 0x40 full_line false (line_of (filled 0x11)) ∷ Rk 1 UD
+    ∷ Ar 0 0 0x40 0 1 0 false ∷ G 0 Read 0 ∷ Ac 1 0x40 0 ∷ Cr 1 5 I
+    ∷ Cd 1 false (filled 0x11) ∷ Cd 1 false (filled 0x11)
     ∷ Cd 1 false (filled 0x11) ∷ Cd 1 true (filled 0x11) ∷ R 0 0 0 false (filled 0x11) ∷ []
 
 -- PassDirty is 1 where data were passed
 abbrev pub breaks_k18i : List Event
 breaks_k18i =
-    Ar 1 0 0x40 0xc 1 0 false ∷ G 1 Read 0 ∷ R 1 0 0 true 0 ∷ D 1 0x40 full_line false (line_of (filled 0x11)) ∷ Rk 1 UD
-    ∷ Ar 0 0 0x40 7 1 0 false ∷ G 0 Read 0 ∷ Ac 1 0x40 7 ∷ Cr 1 5 I ∷ Cd 1 false (filled 0x11) ∷ Cd 1 false (filled 0x11)
+    Ar 1 0 0x40 0xc 1 0 false ∷ G 1 Read 0 ∷ R 1 0 0 true 0
+    ∷ D 1 0x40 full_line false (line_of (filled 0x11)) ∷ Rk 1 UD
+    ∷ Ar 0 0 0x40 7 1 0 false ∷ G 0 Read 0 ∷ Ac 1 0x40 7 ∷ Cr 1 5 I
+    ∷ Cd 1 false (filled 0x11) ∷ Cd 1 false (filled 0x11)
     ∷ Cd 1 false (filled 0x11) ∷ Cd 1 true (filled 0x11) ∷ R 0 0 0 false (filled 0x11) ∷ []
 
 -- PassDirty is 0 where no data were passed
@@ -67,24 +75,29 @@ breaks_k19a =
 -- IsShared is 0 for kinds that keep no shared line
 abbrev pub breaks_k19b : List Event
 breaks_k19b =
-    Ar 1 0 0x40 7 1 0 false ∷ G 1 Read 0 ∷ R 1 0 0 false 0 ∷ R 1 0 0 false 0 ∷ R 1 0 0 false 0 ∷ R 1 0 8 true 0 ∷ []
+    Ar 1 0 0x40 7 1 0 false ∷ G 1 Read 0 ∷ R 1 0 0 false 0 ∷ R 1 0 0 false 0
+    ∷ R 1 0 0 false 0 ∷ R 1 0 8 true 0 ∷ []
 
 -- a ReadNotSharedDirty has not both bits
 abbrev pub breaks_k19c : List Event
 breaks_k19c =
-    Ar 1 0 0x40 0xc 1 0 false ∷ G 1 Read 0 ∷ R 1 0 0 true 0 ∷ D 1 0x40 full_line false (line_of (filled 0x11)) ∷ Rk 1 UD
+    Ar 1 0 0x40 0xc 1 0 false ∷ G 1 Read 0 ∷ R 1 0 0 true 0
+    ∷ D 1 0x40 full_line false (line_of (filled 0x11)) ∷ Rk 1 UD
     ∷ Ar 0 0 0x40 3 1 0 false ∷ G 0 Read 0 ∷ Ac 1 0x40 3 ∷ Cr 1 0xd SC ∷ Cd 1 false (filled 0x11)
-    ∷ Cd 1 false (filled 0x11) ∷ Cd 1 false (filled 0x11) ∷ Cd 1 true (filled 0x11) ∷ R 0 0 0xc false (filled 0x11) ∷ []
+    ∷ Cd 1 false (filled 0x11) ∷ Cd 1 false (filled 0x11) ∷ Cd 1 true (filled 0x11)
+    ∷ R 0 0 0xc false (filled 0x11) ∷ []
 
 -- an ACE-Lite port has neither bit
 abbrev pub breaks_k19d : List Event
 breaks_k19d =
-    Ar 0 0 0x40 0 1 0 false ∷ G 0 Read 0 ∷ R 0 0 0 false 0 ∷ R 0 0 0 false 0 ∷ R 0 0 0 false 0 ∷ R 0 0 8 true 0 ∷ []
+    Ar 0 0 0x40 0 1 0 false ∷ G 0 Read 0 ∷ R 0 0 0 false 0 ∷ R 0 0 0 false 0
+    ∷ R 0 0 0 false 0 ∷ R 0 0 8 true 0 ∷ []
 
 -- IsShared is 1 where an answer has it
 abbrev pub breaks_k19e : List Event
 breaks_k19e =
-    Ar 1 0 0x40 1 1 0 false ∷ G 1 Read 0 ∷ R 1 0 0 false 0 ∷ R 1 0 0 false 0 ∷ R 1 0 0 false 0 ∷ R 1 0 0 true 0 ∷ Rk 1 SC
+    Ar 1 0 0x40 1 1 0 false ∷ G 1 Read 0 ∷ R 1 0 0 false 0 ∷ R 1 0 0 false 0
+    ∷ R 1 0 0 false 0 ∷ R 1 0 0 true 0 ∷ Rk 1 SC
     ∷ Ar 0 0 0x40 1 1 0 false ∷ G 0 Read 0 ∷ Ac 1 0x40 1 ∷ Cr 1 8 SC ∷ R 0 0 0 false 0 ∷ []
 
 -- each transfer has the bits of the first
@@ -95,9 +108,11 @@ breaks_k19f =
 -- a dataless transfer has the word 0
 abbrev pub breaks_k20a : List Event
 breaks_k20a =
-    Ar 0 0 0x1001 0xf 1 0 false ∷ Ar 0 1 0x12345678 0xf 1 0 false ∷ R 0 1 0 true 0x400000000000000000 ∷ []
+    Ar 0 0 0x1001 0xf 1 0 false ∷ Ar 0 1 0x12345678 0xf 1 0 false
+    ∷ R 0 1 0 true 0x400000000000000000 ∷ []
 
--- a transfer has the word of the reply: the first snoop answer with data, else memory before the first transfer
+-- a transfer has the word of the reply: the first snoop answer with data, else memory before the
+-- first transfer
 abbrev pub breaks_k20b : List Event
 breaks_k20b =
     Ar 0 0 0x40 0 1 0 false ∷ G 0 Read 0 ∷ R 0 0 0 false (filled 0xaa) ∷ []
@@ -110,7 +125,8 @@ breaks_k21a =
 -- OKAY for an exclusive store that failed
 abbrev pub breaks_k21b : List Event
 breaks_k21b =
-    Ar 0 0 0x40 1 1 0 false ∷ G 0 Read 0 ∷ R 0 0 0 false 0 ∷ R 0 0 0 false 0 ∷ R 0 0 0 false 0 ∷ R 0 0 0 true 0 ∷ Rk 0 SC
+    Ar 0 0 0x40 1 1 0 false ∷ G 0 Read 0 ∷ R 0 0 0 false 0 ∷ R 0 0 0 false 0
+    ∷ R 0 0 0 false 0 ∷ R 0 0 0 true 0 ∷ Rk 0 SC
     ∷ Ar 0 0 0x40 0xb 1 0 true ∷ G 0 Read 0 ∷ R 0 0 1 true 0 ∷ []
 
 -- OKAY where the transaction is not exclusive
@@ -136,4 +152,5 @@ breaks_k23b =
 -- a barrier or DVM transaction ends in I
 abbrev pub breaks_k23c : List Event
 breaks_k23c =
-    Ar 0 0 0x1001 0xf 1 0 false ∷ Ar 0 1 0x12345678 0xf 1 0 false ∷ Ac 1 0x1001 0xf ∷ Cr 1 0 I ∷ R 0 0 0 true 0 ∷ Rk 0 UC ∷ []
+    Ar 0 0 0x1001 0xf 1 0 false ∷ Ar 0 1 0x12345678 0xf 1 0 false
+    ∷ Ac 1 0x1001 0xf ∷ Cr 1 0 I ∷ R 0 0 0 true 0 ∷ Rk 0 UC ∷ []

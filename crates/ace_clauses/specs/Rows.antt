@@ -1,4 +1,5 @@
--- What the worked rows have in common: headers and lines in short, and the clause of the first break of a trace.
+-- What the worked rows have in common: headers and lines in short, and the clause of the first
+-- break of a trace.
 use Rattle.std.specs.Prelude.{ℕ, ◌+◌, ◌*◌, List, [], ◌∷◌, Option, Some, None, length}
 use Rattle.ace_event.specs.declared.event.Event.{Event}
 use Rattle.ace_event.specs.declared.header.Header.{Header}
@@ -28,7 +29,8 @@ pub record BrokenClause : Type 0 where
 -- the break of the event after the trace, by its least rule, or else what comes later
 abbrev pub clause_or : Header → Trace → Event → Option ℕ → Option BrokenClause → Option BrokenClause
 clause_or h past e None later = later
-clause_or h past e (Some k) later = Some (record { index = length past + 1; rule = k; letter = clause_of h past e k })
+clause_or h past e (Some k) later =
+    Some (record { index = length past + 1; rule = k; letter = clause_of h past e k })
 
 -- after `past` come the events of the list, the oldest first
 abbrev pub broken_clause_after : Header → Trace → List Event → Option BrokenClause

@@ -1,5 +1,5 @@
--- The clauses of the rules of write data, grants and snoops, K11 to K17. K14 has one clause, which is the rule. A clause may presume
--- the earlier ones of its rule.
+-- The clauses of the rules of write data, grants and snoops, K11 to K17. K14 has one clause, which
+-- is the rule. A clause may presume the earlier ones of its rule.
 use Rattle.std.specs.Prelude.{ℕ, Bool, true, false, not, ◌&&◌, ◌==◌, is_some, is_none}
 use Rattle.ace_codes.specs.declared.kind.SnoopKind.{SnoopKind}
 use Rattle.ace_codes.specs.declared.state.LineState.{LineState}
@@ -31,12 +31,14 @@ k11a h past _ = true
 
 -- K11b: WLAST is 1 exactly on the fourth beat.
 abbrev pub k11b : Header → Trace → Event → Bool
-k11b h past (W p strb last word) = is_none_or (next_write past p) (λ x. same_test last (next_write_beat past p == 3))
+k11b h past (W p strb last word) =
+    is_none_or (next_write past p) (λ x. same_test last (next_write_beat past p == 3))
 k11b h past _ = true
 
 -- K11c: a WriteLineUnique or memory update has all strobes.
 abbrev pub k11c : Header → Trace → Event → Bool
-k11c h past (W p strb last word) = is_none_or (next_write past p) (λ x. is_none_or (write_kind x) (fits_strobe strb))
+k11c h past (W p strb last word) =
+    is_none_or (next_write past p) (λ x. is_none_or (write_kind x) (fits_strobe strb))
 k11c h past _ = true
 
 -- K11d: a memory update sends the words of the port's copy.
@@ -55,7 +57,8 @@ k12b h past _ = true
 
 -- K12c: it has had no G.
 abbrev pub k12c : Header → Trace → Event → Bool
-k12c h past (G p c i) = is_none_or (outstanding h past p c i) (λ x. not (has_grant past x.port x.chan x.id))
+k12c h past (G p c i) =
+    is_none_or (outstanding h past p c i) (λ x. not (has_grant past x.port x.chan x.id))
 k12c h past _ = true
 
 -- K12d: no transaction on its line is granted.
@@ -65,7 +68,8 @@ k12d h past _ = true
 
 -- the test holds of the granted transaction for which a line snoop is sent
 abbrev pub is_for : Header → Trace → ℕ → ℕ → (Transaction → Bool) → Bool
-is_for h past addr snoop test = implies (snoops_a_line snoop) (is_none_or (granted h past addr) test)
+is_for h past addr snoop test =
+    implies (snoops_a_line snoop) (is_none_or (granted h past addr) test)
 
 -- K13a: the line of a line snoop has a granted transaction.
 abbrev pub k13a : Header → Trace → Event → Bool
@@ -102,10 +106,12 @@ abbrev pub k13g : Header → Trace → Event → Bool
 k13g h past (Ac p addr snoop) = implies (snoops_a_line snoop) (not (owes_wack h past p addr))
 k13g h past _ = true
 
--- the test holds of the kind of the snoop that the port's next CR answers, and of the state that the port holds
+-- the test holds of the kind of the snoop that the port's next CR answers, and of the state that
+-- the port holds
 abbrev pub is_answer : Header → Trace → ℕ → (SnoopKind → LineState → Bool) → Bool
 is_answer h past p test =
-    is_none_or (answered past p) (λ s. is_none_or (ac_kind_of s.snoop) (λ k. test k (state_of h past p s.addr)))
+    is_none_or (answered past p) (λ s. is_none_or (ac_kind_of s.snoop)
+    (λ k. test k (state_of h past p s.addr)))
 
 -- a line snoop of a line that the port holds
 abbrev pub is_hit : SnoopKind → LineState → Bool
@@ -113,44 +119,54 @@ is_hit k held = is_line_snoop k && not (is_invalid held)
 
 -- K15a: where the port holds the line, the new state is one that the snoop may leave.
 abbrev pub k15a : Header → Trace → Event → Bool
-k15a h past (Cr p resp st) = is_answer h past p (λ k held. implies (is_hit k held) (is_among st (states_after k held)))
+k15a h past (Cr p resp st) =
+    is_answer h past p (λ k held. implies (is_hit k held) (is_among st (states_after k held)))
 k15a h past _ = true
 
 -- K15b: a port without the line answers a line snoop with 00 and stays I.
 abbrev pub k15b : Header → Trace → Event → Bool
-k15b h past (Cr p resp st) = is_answer h past p (λ k held. implies (is_line_snoop k && is_invalid held) (is_plain_row resp st))
+k15b h past (Cr p resp st) =
+    is_answer h past p (λ k held. implies (is_line_snoop k && is_invalid held)
+    (is_plain_row resp st))
 k15b h past _ = true
 
 -- K15c: a DVM snoop is answered with 00 and I.
 abbrev pub k15c : Header → Trace → Event → Bool
-k15c h past (Cr p resp st) = is_answer h past p (λ k held. implies (not (is_line_snoop k)) (is_plain_row resp st))
+k15c h past (Cr p resp st) =
+    is_answer h past p (λ k held. implies (not (is_line_snoop k)) (is_plain_row resp st))
 k15c h past _ = true
 
 -- K15d: where the port holds the line, the bits of CRRESP fit the states before and after.
 abbrev pub k15d : Header → Trace → Event → Bool
-k15d h past (Cr p resp st) = is_answer h past p (λ k held. implies (is_hit k held) (fits_answer k held st resp))
+k15d h past (Cr p resp st) =
+    is_answer h past p (λ k held. implies (is_hit k held) (fits_answer k held st resp))
 k15d h past _ = true
 
 -- the test holds as in `is_answer`, where a memory update of the port on the line is outstanding
 abbrev pub is_answer_beside_update : Header → Trace → ℕ → (SnoopKind → LineState → Bool) → Bool
 is_answer_beside_update h past p test =
     is_none_or (answered past p)
-    (λ s. implies (has_update h past p s.addr) (is_none_or (ac_kind_of s.snoop) (λ k. test k (state_of h past p s.addr))))
+    (λ s. implies (has_update h past p s.addr)
+    (is_none_or (ac_kind_of s.snoop) (λ k. test k (state_of h past p s.addr))))
 
--- K16a: beside an update no ReadUnique, CleanShared, CleanInvalid or MakeInvalid snoop of a line that the port holds is answered:
--- it waits for the update.
+-- K16a: beside an update no ReadUnique, CleanShared, CleanInvalid or MakeInvalid snoop of a line
+-- that the port holds is answered: it waits for the update.
 abbrev pub k16a : Header → Trace → Event → Bool
-k16a h past (Cr p resp st) = is_answer_beside_update h past p (λ k held. implies (is_hit k held) (goes_with_update k))
+k16a h past (Cr p resp st) =
+    is_answer_beside_update h past p (λ k held. implies (is_hit k held) (goes_with_update k))
 k16a h past _ = true
 
 -- K16b: beside an update PassDirty is 0.
 abbrev pub k16b : Header → Trace → Event → Bool
-k16b h past (Cr p resp st) = is_answer_beside_update h past p (λ k held. implies (is_hit k held) (not (passes_dirty resp)))
+k16b h past (Cr p resp st) =
+    is_answer_beside_update h past p (λ k held. implies (is_hit k held) (not (passes_dirty resp)))
 k16b h past _ = true
 
--- K16c: beside an update the port keeps the line; and the answer is a row of the snoop, which K15 asks of it as well.
+-- K16c: beside an update the port keeps the line; and the answer is a row of the snoop, which K15
+-- asks of it as well.
 abbrev pub keeps_the_line : ℕ → LineState → SnoopKind → LineState → Bool
-keeps_the_line resp st k held = implies (is_hit k held) (not (is_invalid st)) && is_snoop_row k held false resp st
+keeps_the_line resp st k held =
+    implies (is_hit k held) (not (is_invalid st)) && is_snoop_row k held false resp st
 
 abbrev pub k16c : Header → Trace → Event → Bool
 k16c h past (Cr p resp st) = is_answer_beside_update h past p (keeps_the_line resp st)
@@ -163,7 +179,8 @@ k17a h past _ = true
 
 -- K17b: CDLAST is 1 exactly on the fourth beat.
 abbrev pub k17b : Header → Trace → Event → Bool
-k17b h past (Cd p last word) = is_none_or (next_sent past p) (λ line. same_test last (next_sent_beat past p == 3))
+k17b h past (Cd p last word) =
+    is_none_or (next_sent past p) (λ line. same_test last (next_sent_beat past p == 3))
 k17b h past _ = true
 
 -- K17c: the word is that of the port's copy at its answer.

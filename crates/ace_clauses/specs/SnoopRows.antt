@@ -1,5 +1,5 @@
--- For each clause of these rules a short trace, the oldest event first, whose last event is its first break and breaks this clause: what
--- stands above it is not so.
+-- For each clause of these rules a short trace, the oldest event first, whose last event is its
+-- first break and breaks this clause: what stands above it is not so.
 use Rattle.std.specs.Prelude.{true, false, List, [], ◌∷◌}
 use Rattle.ace_codes.specs.declared.state.LineState.TheVariants.{I, SC, UC, UD}
 use Rattle.ace_event.specs.declared.event.Channel.TheVariants.{Read, Write}
@@ -27,8 +27,10 @@ breaks_k11c =
 -- a memory update sends the port's copy
 abbrev pub breaks_k11d : List Event
 breaks_k11d =
-    Ar 0 0 0x40 7 1 0 false ∷ G 0 Read 0 ∷ R 0 0 0 false 0 ∷ R 0 0 0 false 0 ∷ R 0 0 0 false 0 ∷ R 0 0 0 true 0 ∷ Rk 0 UC
-    ∷ D 0 0x40 full_line false (line_of (filled 0x22)) ∷ Aw 0 0 0x40 3 1 0 ∷ W 0 full_beat false 0 ∷ []
+    Ar 0 0 0x40 7 1 0 false ∷ G 0 Read 0 ∷ R 0 0 0 false 0 ∷ R 0 0 0 false 0
+    ∷ R 0 0 0 false 0 ∷ R 0 0 0 true 0 ∷ Rk 0 UC
+    ∷ D 0 0x40 full_line false (line_of (filled 0x22)) ∷ Aw 0 0 0x40 3 1 0
+    ∷ W 0 full_beat false 0 ∷ []
 
 -- the G names an outstanding transaction
 abbrev pub breaks_k12a : List Event
@@ -68,7 +70,8 @@ breaks_k13c =
 -- it is no exclusive store that failed
 abbrev pub breaks_k13d : List Event
 breaks_k13d =
-    Ar 0 0 0x40 1 1 0 false ∷ G 0 Read 0 ∷ R 0 0 0 false 0 ∷ R 0 0 0 false 0 ∷ R 0 0 0 false 0 ∷ R 0 0 0 true 0 ∷ Rk 0 SC
+    Ar 0 0 0x40 1 1 0 false ∷ G 0 Read 0 ∷ R 0 0 0 false 0 ∷ R 0 0 0 false 0
+    ∷ R 0 0 0 false 0 ∷ R 0 0 0 true 0 ∷ Rk 0 SC
     ∷ Ar 0 0 0x40 0xb 1 0 true ∷ G 0 Read 0 ∷ Ac 1 0x40 9 ∷ []
 
 -- it has had no R, a write no M
@@ -84,7 +87,8 @@ breaks_k13f =
 -- the port has no write of the line between B and WK
 abbrev pub breaks_k13g : List Event
 breaks_k13g =
-    Ar 1 0 0x40 7 1 0 false ∷ G 1 Read 0 ∷ R 1 0 0 false 0 ∷ R 1 0 0 false 0 ∷ R 1 0 0 false 0 ∷ R 1 0 0 true 0 ∷ Rk 1 UC
+    Ar 1 0 0x40 7 1 0 false ∷ G 1 Read 0 ∷ R 1 0 0 false 0 ∷ R 1 0 0 false 0
+    ∷ R 1 0 0 false 0 ∷ R 1 0 0 true 0 ∷ Rk 1 UC
     ∷ Aw 1 0 0x40 4 1 0 ∷ B 1 0 0 ∷ Ar 0 0 0x40 7 1 0 false ∷ G 0 Read 0 ∷ Ac 1 0x40 7 ∷ []
 
 -- the port has a snoop that is not answered
@@ -95,8 +99,10 @@ breaks_k14a =
 -- the new state is one that this snoop may leave
 abbrev pub breaks_k15a : List Event
 breaks_k15a =
-    Ar 1 0xf 0x1040 3 1 0 false ∷ G 1 Read 0xf ∷ R 1 0xf 0 false 0 ∷ R 1 0xf 0 false 0 ∷ R 1 0xf 0 false 0
-    ∷ R 1 0xf 0 true 0 ∷ Rk 1 UC ∷ Aw 0 1 0x1040 0 2 0 ∷ G 0 Write 1 ∷ Ac 1 0x1040 9 ∷ Cr 1 5 UC ∷ []
+    Ar 1 0xf 0x1040 3 1 0 false ∷ G 1 Read 0xf ∷ R 1 0xf 0 false 0
+    ∷ R 1 0xf 0 false 0 ∷ R 1 0xf 0 false 0
+    ∷ R 1 0xf 0 true 0 ∷ Rk 1 UC ∷ Aw 0 1 0x1040 0 2 0 ∷ G 0 Write 1
+    ∷ Ac 1 0x1040 9 ∷ Cr 1 5 UC ∷ []
 
 -- a port without the line answers 00 and stays I
 abbrev pub breaks_k15b : List Event
@@ -111,25 +117,31 @@ breaks_k15c =
 -- the bits of CRRESP fit the states before and after
 abbrev pub breaks_k15d : List Event
 breaks_k15d =
-    Ar 1 0 0x40 7 1 0 false ∷ G 1 Read 0 ∷ R 1 0 0 false 0 ∷ R 1 0 0 false 0 ∷ R 1 0 0 false 0 ∷ R 1 0 0 true 0 ∷ Rk 1 UC
-    ∷ D 1 0x40 full_line false (line_of (filled 0x11)) ∷ Ar 0 0 0x40 9 1 0 false ∷ G 0 Read 0 ∷ Ac 1 0x40 9 ∷ Cr 1 0 I ∷ []
+    Ar 1 0 0x40 7 1 0 false ∷ G 1 Read 0 ∷ R 1 0 0 false 0 ∷ R 1 0 0 false 0
+    ∷ R 1 0 0 false 0 ∷ R 1 0 0 true 0 ∷ Rk 1 UC
+    ∷ D 1 0x40 full_line false (line_of (filled 0x11)) ∷ Ar 0 0 0x40 9 1 0 false
+    ∷ G 0 Read 0 ∷ Ac 1 0x40 9 ∷ Cr 1 0 I ∷ []
 
 -- a ReadUnique, CleanShared, CleanInvalid or MakeInvalid snoop waits for the update
 abbrev pub breaks_k16a : List Event
 breaks_k16a =
-    Ar 1 0 0x40 0xc 1 0 false ∷ G 1 Read 0 ∷ R 1 0 0 true 0 ∷ D 1 0x40 full_line false (line_of (filled 0x11)) ∷ Rk 1 UD
+    Ar 1 0 0x40 0xc 1 0 false ∷ G 1 Read 0 ∷ R 1 0 0 true 0
+    ∷ D 1 0x40 full_line false (line_of (filled 0x11)) ∷ Rk 1 UD
     ∷ Aw 1 0 0x40 3 1 0 ∷ Ar 0 0 0x40 7 1 0 false ∷ G 0 Read 0 ∷ Ac 1 0x40 7 ∷ Cr 1 5 I ∷ []
 
 -- PassDirty is 0 while the update is outstanding
 abbrev pub breaks_k16b : List Event
 breaks_k16b =
-    Ar 0 1 0xfffff000 0xc 2 0 false ∷ G 0 Read 1 ∷ R 0 1 0 true 0 ∷ D 0 0xfffff000 full_line false (line_of (filled 0x80))
-    ∷ Rk 0 UD ∷ Aw 0 0xf 0xfffff000 3 2 0 ∷ Ar 1 0 0xfffff000 0 1 0 false ∷ G 1 Read 0 ∷ Ac 0 0xfffff000 0 ∷ Cr 0 5 I ∷ []
+    Ar 0 1 0xfffff000 0xc 2 0 false ∷ G 0 Read 1 ∷ R 0 1 0 true 0
+    ∷ D 0 0xfffff000 full_line false (line_of (filled 0x80))
+    ∷ Rk 0 UD ∷ Aw 0 0xf 0xfffff000 3 2 0 ∷ Ar 1 0 0xfffff000 0 1 0 false
+    ∷ G 1 Read 0 ∷ Ac 0 0xfffff000 0 ∷ Cr 0 5 I ∷ []
 
 -- the port keeps the line while the update is outstanding
 abbrev pub breaks_k16c : List Event
 breaks_k16c =
-    Ar 0 0 0x40 7 1 0 false ∷ G 0 Read 0 ∷ R 0 0 0 false 0 ∷ R 0 0 0 false 0 ∷ R 0 0 0 false 0 ∷ R 0 0 0 true 0 ∷ Rk 0 UC
+    Ar 0 0 0x40 7 1 0 false ∷ G 0 Read 0 ∷ R 0 0 0 false 0 ∷ R 0 0 0 false 0
+    ∷ R 0 0 0 false 0 ∷ R 0 0 0 true 0 ∷ Rk 0 UC
     ∷ Aw 0 0 0x40 5 1 0 ∷ Ar 1 0 0x40 1 1 0 false ∷ G 1 Read 0 ∷ Ac 0 0x40 1 ∷ Cr 0 0 I ∷ []
 
 -- the port has an answer with DataTransfer whose data are not whole
@@ -140,13 +152,16 @@ breaks_k17a =
 -- CDLAST is 1 exactly on the fourth word
 abbrev pub breaks_k17b : List Event
 breaks_k17b =
-    Ar 1 0 0x40 7 1 0 false ∷ G 1 Read 0 ∷ R 1 0 0 false 0 ∷ R 1 0 0 false 0 ∷ R 1 0 0 false 0 ∷ R 1 0 0 true 0 ∷ Rk 1 UC
-    ∷ D 1 0x40 full_line false (line_of (filled 0x11)) ∷ Ar 0 0 0x40 7 1 0 false ∷ G 0 Read 0 ∷ Ac 1 0x40 7 ∷ Cr 1 0x15 I
+    Ar 1 0 0x40 7 1 0 false ∷ G 1 Read 0 ∷ R 1 0 0 false 0 ∷ R 1 0 0 false 0
+    ∷ R 1 0 0 false 0 ∷ R 1 0 0 true 0 ∷ Rk 1 UC
+    ∷ D 1 0x40 full_line false (line_of (filled 0x11)) ∷ Ar 0 0 0x40 7 1 0 false
+    ∷ G 0 Read 0 ∷ Ac 1 0x40 7 ∷ Cr 1 0x15 I
     ∷ Cd 1 true (filled 0x11) ∷ []
 
 -- the word is that of the port's copy at its answer
 abbrev pub breaks_k17c : List Event
 breaks_k17c =
-    Ar 0 1 0x9000 0xc 1 0 false ∷ G 0 Read 1 ∷ R 0 1 0 true 0 ∷ D 0 0x9000 full_line false (line_of (filled 0x15))
+    Ar 0 1 0x9000 0xc 1 0 false ∷ G 0 Read 1 ∷ R 0 1 0 true 0
+    ∷ D 0 0x9000 full_line false (line_of (filled 0x15))
     ∷ Rk 0 UD ∷ Ar 2 3 0x9000 8 1 0 false ∷ G 2 Read 3 ∷ Ac 0 0x9000 8 ∷ Cr 0 0xd SC
     ∷ Cd 0 false 0x15151515151515151515151511151515 ∷ []

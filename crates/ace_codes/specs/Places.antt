@@ -1,4 +1,5 @@
--- Where a kind of transaction stands: its AxBAR, its AxDOMAIN and its AxSNOOP (Arm IHI 0022E, C3.1).
+-- Where a kind of transaction stands: its AxBAR, its AxDOMAIN and its AxSNOOP (Arm IHI 0022E,
+-- C3.1).
 use Rattle.std.specs.Prelude.{ℕ, Bool, ◌&&◌, ◌||◌, ◌==◌, if◌then◌else◌, List, [], ◌∷◌, Option, Some, None}
 use Rattle.ace_codes.specs.declared.channel.Domain.{Domain}
 use Rattle.ace_codes.specs.declared.channel.Domain.TheVariants.{NonShareable, Inner, Outer, System}

@@ -1,6 +1,6 @@
--- The kinds of the read address channel (Arm IHI 0022E, C3.1.3).
--- Our choice: that maintenance is in domains 1 and 2 alone; that every kind but a barrier takes bar 2 as well as bar 0; the
--- domains of DVM; and the code, the domains and the bars of a barrier.
+-- The kinds of the read address channel (Arm IHI 0022E, C3.1.3). Our choice: that maintenance is in
+-- domains 1 and 2 alone; that every kind but a barrier takes bar 2 as well as bar 0; the domains of
+-- DVM; and the code, the domains and the bars of a barrier.
 use Rattle.std.specs.Prelude.{ℕ, List, [], ◌∷◌, Option, find}
 use Rattle.ace_codes.specs.declared.kind.ArKind.{ArKind}
 use Rattle.ace_codes.specs.declared.kind.ArKind.TheVariants.{ReadNoSnoop, ReadOnce, ReadShared, ReadClean, ReadNotSharedDirty, ReadUnique, CleanUnique, MakeUnique, CleanShared, CleanInvalid, MakeInvalid, DvmComplete, DvmMessage, Barrier}
@@ -31,7 +31,8 @@ ar_code kind = (read_place kind).2
 abbrev pub reads : List ArKind
 reads =
     ReadNoSnoop ∷ ReadOnce ∷ ReadShared ∷ ReadClean ∷ ReadNotSharedDirty ∷ ReadUnique
-    ∷ CleanShared ∷ CleanInvalid ∷ CleanUnique ∷ MakeUnique ∷ MakeInvalid ∷ DvmComplete ∷ DvmMessage ∷ Barrier ∷ []
+    ∷ CleanShared ∷ CleanInvalid ∷ CleanUnique ∷ MakeUnique ∷ MakeInvalid
+    ∷ DvmComplete ∷ DvmMessage ∷ Barrier ∷ []
 
 -- the kind that stands at these numbers
 unfoldable pub ar_kind_of : ℕ → ℕ → ℕ → Option ArKind

@@ -21,7 +21,8 @@ ac_code DvmMessage = ar_code read.DvmMessage
 -- all kinds
 abbrev pub snoops : List SnoopKind
 snoops =
-    ReadOnce ∷ ReadShared ∷ ReadClean ∷ ReadNotSharedDirty ∷ ReadUnique ∷ CleanShared ∷ CleanInvalid ∷ MakeInvalid
+    ReadOnce ∷ ReadShared ∷ ReadClean ∷ ReadNotSharedDirty ∷ ReadUnique
+    ∷ CleanShared ∷ CleanInvalid ∷ MakeInvalid
     ∷ DvmComplete ∷ DvmMessage ∷ []
 
 -- the kind with this code

@@ -1,6 +1,6 @@
--- The kinds of the write address channel (Arm IHI 0022E, C3.1.3).
--- Our choice: that memory updates and Evict are in domains 1 and 2 alone; that every kind but a barrier takes bar 2 as well
--- as bar 0; and the code, the domains and the bars of a barrier.
+-- The kinds of the write address channel (Arm IHI 0022E, C3.1.3). Our choice: that memory updates
+-- and Evict are in domains 1 and 2 alone; that every kind but a barrier takes bar 2 as well as bar
+-- 0; and the code, the domains and the bars of a barrier.
 use Rattle.std.specs.Prelude.{ℕ, List, [], ◌∷◌, Option, find}
 use Rattle.ace_codes.specs.declared.kind.AwKind.{AwKind}
 use Rattle.ace_codes.specs.declared.kind.AwKind.TheVariants.{WriteNoSnoop, WriteUnique, WriteLineUnique, WriteClean, WriteBack, Evict, WriteEvict, Barrier}
@@ -23,7 +23,9 @@ aw_code kind = (write_place kind).2
 
 -- all kinds
 abbrev pub writes : List AwKind
-writes = WriteNoSnoop ∷ WriteUnique ∷ WriteLineUnique ∷ WriteClean ∷ WriteBack ∷ Evict ∷ WriteEvict ∷ Barrier ∷ []
+writes =
+    WriteNoSnoop ∷ WriteUnique ∷ WriteLineUnique ∷ WriteClean ∷ WriteBack
+    ∷ Evict ∷ WriteEvict ∷ Barrier ∷ []
 
 -- the kind that stands at these numbers
 unfoldable pub aw_kind_of : ℕ → ℕ → ℕ → Option AwKind

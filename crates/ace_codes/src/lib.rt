@@ -1,4 +1,5 @@
-//! The words of the ACE channels: kinds of transactions and snoops, domains, barriers, line states and response bits.
+//! The words of the ACE channels: kinds of transactions and snoops, domains, barriers, line states
+//! and response bits.
 #![tactic(auto)]
 
 mod bits;

@@ -190,8 +190,8 @@ static SNOOPS: [Option<SnoopKind>; 16] = [
     Some(SnoopKind::DvmMessage),
 ];
 
-/// The kind of a transaction on the read address channel, by its ARSNOOP, ARDOMAIN and ARBAR. None exactly where no kind
-/// stands at these numbers (Arm IHI 0022E, C3.1.3).
+/// The kind of a transaction on the read address channel, by its ARSNOOP, ARDOMAIN and ARBAR. None
+/// exactly where no kind stands at these numbers (Arm IHI 0022E, C3.1.3).
 #[tactic(auto, unfolding(crate::specs::Reads::ar_kind_of))]
 pub fn read_ar(snoop: u8, domain: u8, bar: u8) -> Option<ArKind>
     ensures { result ≡ ar_kind_of snoop domain bar }
@@ -202,8 +202,8 @@ pub fn read_ar(snoop: u8, domain: u8, bar: u8) -> Option<ArKind>
     READS[usize::from(bar * 4 + domain)][usize::from(snoop)]
 }
 
-/// The kind of a transaction on the write address channel, by its AWSNOOP, AWDOMAIN and AWBAR. None exactly where no kind
-/// stands at these numbers (Arm IHI 0022E, C3.1.3).
+/// The kind of a transaction on the write address channel, by its AWSNOOP, AWDOMAIN and AWBAR. None
+/// exactly where no kind stands at these numbers (Arm IHI 0022E, C3.1.3).
 #[tactic(auto, unfolding(crate::specs::Writes::aw_kind_of))]
 pub fn read_aw(snoop: u8, domain: u8, bar: u8) -> Option<AwKind>
     ensures { result ≡ aw_kind_of snoop domain bar }
@@ -214,7 +214,8 @@ pub fn read_aw(snoop: u8, domain: u8, bar: u8) -> Option<AwKind>
     WRITES[usize::from(bar * 4 + domain)][usize::from(snoop)]
 }
 
-/// The kind of a snoop, by its ACSNOOP. None exactly where no kind has this code (Arm IHI 0022E, C3.6.1).
+/// The kind of a snoop, by its ACSNOOP. None exactly where no kind has this code (Arm IHI 0022E,
+/// C3.6.1).
 #[tactic(auto, unfolding(crate::specs::Snoops::ac_kind_of))]
 pub fn read_ac(snoop: u8) -> Option<SnoopKind>
     ensures { result ≡ ac_kind_of snoop }

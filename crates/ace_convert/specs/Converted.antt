@@ -17,8 +17,9 @@ use Rattle.ace_convert.specs.Output.{AppendsPart}
 use Rattle.ace_convert.specs.Reading.{IsTrace, ReadsTo, ReadsNoHeader}
 use Rattle.ace_convert.specs.Spelling.{spelt, form_read, converted}
 
--- The reading of these bytes, of which these are left, ends so, and the text is what is made of the trace that was read: at a
--- fault of the input of what stands whole in the bytes that were taken. Nothing is made where there is no header.
+-- The reading of these bytes, of which these are left, ends so, and the text is what is made of the
+-- trace that was read: at a fault of the input of what stands whole in the bytes that were taken.
+-- Nothing is made where there is no header.
 abbrev pub IsConverted : Conversion → List ℕ → Option (List ℕ) → TraceEnd → List ℕ → Type 0
 IsConverted conversion bytes left end text =
     (ReadsNoHeader (form_read conversion) bytes left end × (text ≡ []))
@@ -33,14 +34,16 @@ ConvertsFront conversion bytes text =
     × BeginsWith bytes (spelt (form_read conversion) header events)
     × (text ≡ converted conversion header events)
 
--- the numbers are such that a trace of the form may be given as them: those of a binary trace are below 256
+-- the numbers are such that a trace of the form may be given as them: those of a binary trace are
+-- below 256
 abbrev pub CanBeRead : Form → List ℕ → Type 0
 CanBeRead Text bytes = ⊤
 CanBeRead Binary bytes = AreBytes bytes
 
--- What a conversion leaves: by the bytes of the input and its count of faults, and those of the output, each before and after. Where
--- no output failed, all that is made of the trace was given, and else a front of what is made of a trace with which the bytes
--- begin. A whole trace was read to the end of the input.
+-- What a conversion leaves: by the bytes of the input and its count of faults, and those of the
+-- output, each before and after. Where no output failed, all that is made of the trace was given,
+-- and else a front of what is made of a trace with which the bytes begin. A whole trace was read to
+-- the end of the input.
 pub record HasConverted (conversion : Conversion) (input left : Option (List ℕ))
     (read_faults read_faults' : ℕ) (out out' : Option (List ℕ)) (faults faults' : ℕ)
     (result : Result TraceEnd Failed) : Type 0 where

@@ -47,7 +47,8 @@ pub record HasReadCause (before now : ℕ) (end : TraceEnd) : Type 0 where
 
 -- There is no header in the form, and the reading ends so.
 abbrev pub HasNoTrace : Form → TraceEnd → Option (List ℕ) → Option (List ℕ) → Type 0
-HasNoTrace form end old left = (end ≢ Whole) × IfSome old (λ bytes. ReadsNoHeader form bytes left end)
+HasNoTrace form end old left =
+    (end ≢ Whole) × IfSome old (λ bytes. ReadsNoHeader form bytes left end)
 
 -- an end that says what is in the input, and not that it failed or that there was no memory
 abbrev pub IsDueEnd : TraceEnd → Type 0

@@ -22,7 +22,8 @@ pub record IsTrace (header : Header) (events : List Event) : Type 0 where
   pub events_in_range : AllByRecursion (InRange header.version) events
   pub few : length events ≤ text.most_events
 
--- no whole event of a trace of a version stands at the front: the bytes are less than a line, or hold no whole record
+-- no whole event of a trace of a version stands at the front: the bytes are less than a line, or
+-- hold no whole record
 abbrev pub HoldsNoEvent : Form → ℕ → List ℕ → Type 0
 HoldsNoEvent Text version bytes = HasNoLf bytes × (length bytes < 256)
 HoldsNoEvent Binary version bytes = errors.HoldsNoRecord version bytes
@@ -33,7 +34,8 @@ TakesTrace form bytes left header events =
     IsTrace header events × ((pending : List ℕ) × HoldsNoEvent form header.version pending
     × Consumes (Some bytes) left (spelt form header events ++ pending))
 
--- The bytes, of which these are left, are this header and these events in the form, oldest first, and then their reading ends so.
+-- The bytes, of which these are left, are this header and these events in the form, oldest first,
+-- and then their reading ends so.
 abbrev pub ReadsTo : Form → List ℕ → Option (List ℕ) → Header → List Event → TraceEnd → Type 0
 ReadsTo Text bytes left header events Whole = text.Reads bytes header events text.Whole
 ReadsTo Text bytes left header events (BadLine line reason) =
@@ -47,7 +49,8 @@ ReadsTo Binary bytes left header events Full = binary.ReadsBinary bytes header e
 ReadsTo form bytes left header events ReadFault = TakesTrace form bytes left header events
 ReadsTo form bytes left header events end = ⊥
 
--- The same where the reading ends before there is a header. Want of memory may end it so, whatever the bytes are.
+-- The same where the reading ends before there is a header. Want of memory may end it so, whatever
+-- the bytes are.
 abbrev pub ReadsNoHeader : Form → List ℕ → Option (List ℕ) → TraceEnd → Type 0
 ReadsNoHeader Text bytes left (BadLine line reason) = text.HasBadHeader bytes line reason
 ReadsNoHeader Binary bytes left (BadRecord byte reason) = binary.HasBadHeader bytes byte reason
@@ -57,9 +60,11 @@ ReadsNoHeader Binary bytes left ReadFault =
 ReadsNoHeader form bytes left NoMemory = ⊤
 ReadsNoHeader form bytes left end = ⊥
 
--- The answer of a reader of the form that had read these events, with this header, of the bytes, of which these are left now, is
--- that of their reading: one more event, and then it has read so many, or how they end.
+-- The answer of a reader of the form that had read these events, with this header, of the bytes, of
+-- which these are left now, is that of their reading: one more event, and then it has read so many,
+-- or how they end.
 abbrev pub IsReading : Form → (List Event → Type 0) → List ℕ → Option (List ℕ) → Header → List Event
     → Result Event TraceEnd → Type 0
 IsReading form HasRead bytes left header events (Ok event) = HasRead (events ++ event ∷ [])
-IsReading form HasRead bytes left header events (Err end) = ReadsTo form bytes left header events end
+IsReading form HasRead bytes left header events (Err end) =
+    ReadsTo form bytes left header events end

@@ -111,7 +111,8 @@ fn unpack<S: Source, K: Sink>(input: &mut S, out: &mut K) -> Result<TraceEnd, Fa
     }
 }
 
-/// Reads a trace and writes what is made of it, event by event: how the reading ends, once all was given.
+/// Reads a trace and writes what is made of it, event by event: how the reading ends, once all was
+/// given.
 ///
 /// # Errors
 ///

@@ -1,4 +1,5 @@
-//! Traces from one form to another, event by event as they are read: the work of the commands that write a trace of a trace.
+//! Traces from one form to another, event by event as they are read: the work of the commands that
+//! write a trace of a trace.
 #![tactic(auto)]
 
 mod conversion;

@@ -26,7 +26,8 @@ use ace_io::Source;
 pub fn next_in_text<S: Source>(reader: &mut Reader<S>, event: &mut Event) -> Result<(), TraceEnd>
     requires most { text.most_of reader.old ≡ most_events }
     requires reads_on { text.last_answer reader.old ≡ None }
-    ensures same_source { (text.source_of reader.new).ghost_name ≡ (text.source_of reader.old).ghost_name }
+    ensures same_source { (text.source_of reader.new).ghost_name
+        ≡ (text.source_of reader.old).ghost_name }
     ensures same_header { text.header_of reader.new ≡ text.header_of reader.old }
     ensures same_most { text.most_of reader.new ≡ text.most_of reader.old }
     ensures in_range { OnOk result (InRange (text.header_of reader.old).version event.new) }
@@ -61,7 +62,8 @@ pub fn next_in_binary<S: Source>(
     event: &mut Event,
 ) -> Result<(), TraceEnd>
     requires { binary.last_answer reader.old ≡ None }
-    ensures same_source { (binary.source_of reader.new).ghost_name ≡ (binary.source_of reader.old).ghost_name }
+    ensures same_source { (binary.source_of reader.new).ghost_name
+        ≡ (binary.source_of reader.old).ghost_name }
     ensures same_header { binary.header_of reader.new ≡ binary.header_of reader.old }
     ensures in_range { OnOk result (InRange (binary.header_of reader.old).version event.new) }
     ensures room { OnOk result (binary.count_of reader.old < most_events) }
@@ -74,7 +76,8 @@ pub fn next_in_binary<S: Source>(
         (with_event event.new result) }
     ensures memory { result ≢ Err NoMemory }
     ensures leaves_nothing { result ≡ Err Whole
-        → LeavesNothing (binary.unread S.left reader.old) (S.left (binary.source_of reader.new).now) }
+        → LeavesNothing (binary.unread S.left reader.old)
+        (S.left (binary.source_of reader.new).now) }
     ensures steady { OnOk result
         (S.faults (binary.source_of reader.new).now ≡ S.faults (binary.source_of reader.old).now) }
     ensures cause { IfErr result

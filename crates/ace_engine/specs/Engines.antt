@@ -1,4 +1,5 @@
--- The engines of a run: which steps each takes and which events they give, and for which traces it may stand.
+-- The engines of a run: which steps each takes and which events they give, and for which traces it
+-- may stand.
 use Rattle.std.specs.Prelude.{ℕ, Bool, true, false, not, ◌&&◌, ◌||◌, List, [], ◌∷◌}
 use Rattle.ace_event.specs.declared.event.Channel.TheVariants.{Read, Write}
 use Rattle.ace_event.specs.declared.event.Event.{Event}
@@ -15,8 +16,8 @@ use Rattle.ace_runs.specs.Segments.{is_at_port}
 use Rattle.ace_runs.specs.Follows.{FollowsSoFar}
 use Rattle.ace_runs.specs.Lean.{IsLean}
 
--- The master of a port; and of the interconnect the home, which serves lines that are granted, the engine of memory updates, and the one of
--- barriers and DVM.
+-- The master of a port; and of the interconnect the home, which serves lines that are granted, the
+-- engine of memory updates, and the one of barriers and DVM.
 pub data EngineKind : Type 0 where
   Master : EngineKind
   Home : EngineKind
@@ -62,7 +63,8 @@ is_of_update past _ = false
 -- the snoops of DVM, and R and B of barriers and DVM transactions
 abbrev pub is_of_order : Trace → Event → Bool
 is_of_order past (Ac p addr snoop) = not (snoops_a_line snoop)
-is_of_order past (R p i resp last word) = is_some_and (transaction_of past p Read i) (λ x. not (is_line x))
+is_of_order past (R p i resp last word) =
+    is_some_and (transaction_of past p Read i) (λ x. not (is_line x))
 is_of_order past (B p i resp) = is_some_and (transaction_of past p Write i) (λ x. not (is_line x))
 is_of_order past _ = false
 
@@ -81,7 +83,8 @@ is_master _ = false
 abbrev pub is_their_operation : EngineKind → (ℕ → Bool) → PlanOp → Bool
 is_their_operation kind serves o = is_master kind && serves o.port
 
--- An engine may stand for the plan and the trace: the plan is right, and the trace is accepted, follows the plan so far and is lean.
+-- An engine may stand for the plan and the trace: the plan is right, and the trace is accepted,
+-- follows the plan so far and is lean.
 pub record IsLegal (plan : Plan) (past : Trace) : Type 0 where
   pub right : IsRight plan
   pub accepted : IsAccepted plan.header past

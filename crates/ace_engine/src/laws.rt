@@ -1,4 +1,5 @@
-//! Laws of the traces for which engines stand. These functions do no work: what they promise is the law.
+//! Laws of the traces for which engines stand. These functions do no work: what they promise is the
+//! law.
 
 ghost use Rattle.std.specs.Prelude.{◌≡◌, ◌≢◌, ℕ, true, false, List};
 ghost use Rattle.ace_event.specs.declared.event.Event.{Event};
@@ -11,12 +12,14 @@ ghost use Rattle.ace_engine.specs.Engines.{EngineKind, IsLegal, Master, is_given
 
 /// What an engine may stand for was so at each of its points.
 pub fn legal_at_each_point()
-    ensures { (plan : Plan) (burst : List Event) (past : Trace) → IsLegal plan (onto burst past) → IsLegal plan past }
+    ensures { (plan : Plan) (burst : List Event) (past : Trace) → IsLegal plan (onto burst past)
+        → IsLegal plan past }
 {}
 
 /// With one more operation at the end of the plan an engine may stand for the same trace.
 pub fn legal_for_a_longer_plan()
-    ensures { (plan : Plan) (past : Trace) (operation : PlanOp) → IsLegal plan past → IsRight (longer plan operation)
+    ensures { (plan : Plan) (past : Trace) (operation : PlanOp) → IsLegal plan past
+        → IsRight (longer plan operation)
         → IsLegal (longer plan operation) past }
 {}
 

@@ -1,4 +1,5 @@
-//! What the engines of a run have in common: the bursts that they put, and what a turn and an event that is heard promise.
+//! What the engines of a run have in common: the bursts that they put, and what a turn and an event
+//! that is heard promise.
 #![tactic(auto)]
 
 mod burst;

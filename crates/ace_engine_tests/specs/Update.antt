@@ -34,8 +34,10 @@ update_plan = plan_of (op.Fill 64 stored) (op.Wb 64)
 
 abbrev pub update_events : List Event
 update_events =
-    Ar 0 0 64 12 1 0 false ∷ G 0 Read 0 ∷ R 0 0 0 true 0 ∷ D 0 64 full_line false stored ∷ Rk 0 UD ∷ Op 0 0 Ok
-    ∷ Aw 0 0 64 3 1 0 ∷ Op 0 1 Ok ∷ W 0 65535 false 5 ∷ W 0 65535 false 6 ∷ W 0 65535 false 7 ∷ W 0 65535 true 8 ∷ []
+    Ar 0 0 64 12 1 0 false ∷ G 0 Read 0 ∷ R 0 0 0 true 0 ∷ D 0 64 full_line false stored
+    ∷ Rk 0 UD ∷ Op 0 0 Ok
+    ∷ Aw 0 0 64 3 1 0 ∷ Op 0 1 Ok ∷ W 0 65535 false 5 ∷ W 0 65535 false 6
+    ∷ W 0 65535 false 7 ∷ W 0 65535 true 8 ∷ []
 
 -- A port reads a line, and gives it up.
 abbrev pub evict_plan : Plan
@@ -43,7 +45,8 @@ evict_plan = plan_of (op.Pf 64 read.ReadUnique) (op.Ev 64)
 
 abbrev pub evict_events : List Event
 evict_events =
-    Ar 0 0 64 7 1 0 false ∷ G 0 Read 0 ∷ R 0 0 0 false 0 ∷ R 0 0 0 false 0 ∷ R 0 0 0 false 0 ∷ R 0 0 0 true 0 ∷ Rk 0 UC
+    Ar 0 0 64 7 1 0 false ∷ G 0 Read 0 ∷ R 0 0 0 false 0 ∷ R 0 0 0 false 0
+    ∷ R 0 0 0 false 0 ∷ R 0 0 0 true 0 ∷ Rk 0 UC
     ∷ Op 0 0 Ok ∷ Aw 0 0 64 4 1 0 ∷ Op 0 1 Ok ∷ []
 
 -- none of the events is one of the engine's own

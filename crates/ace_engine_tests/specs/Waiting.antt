@@ -12,10 +12,12 @@ use Rattle.ace_engine_tests.specs.Update.{plan_of, stored}
 abbrev pub waiting_plan : Plan
 waiting_plan = plan_of (op.Wlu 64 stored) op.Sb
 
--- The port has issued a WriteLineUnique and sent its data, and has issued both halves of the barrier.
+-- The port has issued a WriteLineUnique and sent its data, and has issued both halves of the
+-- barrier.
 abbrev pub waiting_events : List Event
 waiting_events =
-    Aw 0 0 64 1 1 0 ∷ Op 0 0 Ok ∷ W 0 65535 false 5 ∷ W 0 65535 false 6 ∷ W 0 65535 false 7 ∷ W 0 65535 true 8
+    Aw 0 0 64 1 1 0 ∷ Op 0 0 Ok ∷ W 0 65535 false 5 ∷ W 0 65535 false 6
+    ∷ W 0 65535 false 7 ∷ W 0 65535 true 8
     ∷ Ar 0 1 0 0 1 3 false ∷ Aw 0 1 0 0 1 3 ∷ []
 
 -- The write is granted, is in memory and is complete.

@@ -1,5 +1,6 @@
-//! Tests of bursts, of the engine of memory updates, of the one of barriers and DVM, and of what the master of an ACE port keeps. They stand in a crate
-//! of their own, so that what they test is proved once.
+//! Tests of bursts, of the engine of memory updates, of the one of barriers and DVM, and of what
+//! the master of an ACE port keeps. They stand in a crate of their own, so that what they test is
+//! proved once.
 #![tactic(auto)]
 
 #[cfg(test)]

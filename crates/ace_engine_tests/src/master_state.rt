@@ -202,7 +202,8 @@ fn answers() -> Event {
     }
 }
 
-/// A port owes a DVM Complete for each Sync that it has answered; the second part of a message is none, whatever its word is.
+/// A port owes a DVM Complete for each Sync that it has answered; the second part of a message is
+/// none, whatever its word is.
 fn owes_for_the_second(port: &mut OnePort) -> bool {
     let mut completions = Completions::new(0);
     let first = [snooped(0x1001, 15), snooped(0xc000, 15)];

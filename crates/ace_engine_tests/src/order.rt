@@ -1,4 +1,5 @@
-//! The engine after worked traces: a barrier that may be answered, a message of two parts, and a Sync from its issue to its end.
+//! The engine after worked traces: a barrier that may be answered, a message of two parts, and a
+//! Sync from its issue to its end.
 
 ghost use Rattle.std.specs.Prelude.{◌≡◌, ◌<◌, ℕ, true, false, [], ◌++◌, IfOk, OnOk};
 ghost use Rattle.ace_codes.specs.declared.state.LineState.TheVariants.{I};
@@ -101,7 +102,8 @@ fn rk() -> Event
 
 /// The engine hears the events, which others put.
 pub fn hear_all(order: &mut Order, events: &[Event])
-    ensures { (plan : Plan) (past : Trace) → OrderStands order.old plan past → IsLegal plan (onto events.now past) → are_others past events.now ≡ true
+    ensures { (plan : Plan) (past : Trace) → OrderStands order.old plan past
+        → IsLegal plan (onto events.now past) → are_others past events.now ≡ true
         → OrderStands order.new plan (onto events.now past) }
 {
     for event in events {
@@ -144,8 +146,10 @@ fn is_same(event: &Event, other: &Event) -> bool
 
 /// The port's turn puts these events.
 fn puts(order: &mut Order, port: u8, events: &[Event]) -> Result<(), Fail>
-    requires { (plan : Plan) × (past : Trace) × OrderStands order.old plan past × (port < plan.header.ports) }
-    ensures { OnOk result ((plan : Plan) (past : Trace) → OrderStands order.old plan past → OrderStands order.new plan (onto events.now past)) }
+    requires { (plan : Plan) × (past : Trace) × OrderStands order.old plan past
+        × (port < plan.header.ports) }
+    ensures { OnOk result ((plan : Plan) (past : Trace) → OrderStands order.old plan past
+        → OrderStands order.new plan (onto events.now past)) }
 {
     let mut out = Burst::empty();
     if !order.turn(port, &mut out) {
@@ -174,7 +178,8 @@ fn issued(alloc: Global) -> Result<Order, Fail>
 
 /// The engine after the other port has answered it.
 fn answered(alloc: Global) -> Result<Order, Fail>
-    ensures { IfOk result (λ s. OrderStands s (plan_of (Op.Sync 49152)) (onto (sync_issued ++ sync_answered) [])) }
+    ensures { IfOk result (λ s. OrderStands s (plan_of (Op.Sync 49152))
+        (onto (sync_issued ++ sync_answered) [])) }
 {
     let mut order = issued(alloc)?;
     puts(&mut order, 0, &[ac(1, 0xc000, 15)])?;
@@ -184,7 +189,8 @@ fn answered(alloc: Global) -> Result<Order, Fail>
 
 /// The engine after the other port has issued its DVM Complete.
 fn done(alloc: Global) -> Result<Order, Fail>
-    ensures { IfOk result (λ s. OrderStands s (plan_of (Op.Sync 49152)) (onto (sync_issued ++ sync_answered ++ sync_done) [])) }
+    ensures { IfOk result (λ s. OrderStands s (plan_of (Op.Sync 49152))
+        (onto (sync_issued ++ sync_answered ++ sync_done) [])) }
 {
     let mut order = answered(alloc)?;
     puts(&mut order, 0, &[r(0)])?;
@@ -227,7 +233,8 @@ fn forwards_both_parts(rt: HostRuntime) -> Result<(), Fail> {
     Ok(())
 }
 
-/// A Sync is forwarded, gets its response once it is answered, and ends once the other port's DVM Complete has come, which gets its own.
+/// A Sync is forwarded, gets its response once it is answered, and ends once the other port's DVM
+/// Complete has come, which gets its own.
 #[test]
 fn ends_a_sync(rt: HostRuntime) -> Result<(), Fail> {
     let mut order = done(rt.alloc())?;

@@ -48,7 +48,8 @@ pub fn plan_of(alloc: Global, first: Op, second: Op) -> Result<PlanView, Fail>
 
 /// The engine hears the events, which others put.
 fn hear_all(update: &mut Update, events: &[Event])
-    ensures { (plan : Plan) (past : Trace) → UpdateStands update.old plan past → IsLegal plan (onto events.now past) → are_others past events.now ≡ true
+    ensures { (plan : Plan) (past : Trace) → UpdateStands update.old plan past
+        → IsLegal plan (onto events.now past) → are_others past events.now ≡ true
         → UpdateStands update.new plan (onto events.now past) }
 {
     for event in events {

@@ -23,12 +23,15 @@ port_letters header = map (port_letter header.ace) (range_with_len 0 header.port
 abbrev pub most_letters : ℕ → ℕ
 most_letters version = if version == 1 then 8 else 16
 
--- The header of two header lines: version 1 or 2, one port or more, at most 8 of each kind in version 1 and at most 16 in
--- version 2, and no bit of `ace` for a port that isn't there. So version 1 has at most 16 ports, and version 2 at most 32.
+-- The header of two header lines: version 1 or 2, one port or more, at most 8 of each kind in
+-- version 1 and at most 16 in version 2, and no bit of `ace` for a port that isn't there. So
+-- version 1 has at most 16 ports, and version 2 at most 32.
 pub record IsHeader (header : Header) : Type 0 where
   pub version : (header.version ≡ 1) ⊎ (header.version ≡ 2)
   pub some_port : 1 ≤ header.ports
   pub most_ports : header.ports ≤ 32
-  pub most_ace : count_by (λ letter. letter == 65) (port_letters header) ≤ most_letters header.version
-  pub most_lite : count_by (λ letter. letter == 76) (port_letters header) ≤ most_letters header.version
+  pub most_ace : count_by (λ letter. letter == 65) (port_letters header)
+      ≤ most_letters header.version
+  pub most_lite : count_by (λ letter. letter == 76) (port_letters header)
+      ≤ most_letters header.version
   pub no_other : header.ace < 2 ^ header.ports

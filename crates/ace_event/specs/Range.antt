@@ -26,8 +26,8 @@ IsWord word = word < 2 ^ 128
 abbrev pub IsLine : Line → Type 0
 IsLine line = (length line.words ≡ 4) × AllByRecursion IsWord line.words
 
--- What the types of the fields give alone: words and strobes have their widths, and a line has four words. Every event that a
--- program can hold is so.
+-- What the types of the fields give alone: words and strobes have their widths, and a line has four
+-- words. Every event that a program can hold is so.
 abbrev pub FitsFields : Event → Type 0
 FitsFields (R port id resp last word) = IsWord word
 FitsFields (W port strb last word) = (strb < 2 ^ 16) × IsWord word
@@ -38,12 +38,14 @@ FitsFields (D port addr strobe x line) = (strobe < 2 ^ 64) × IsLine line
 FitsFields (Mem addr line) = IsLine line
 FitsFields _ = ⊤
 
--- Each number has the digits of its field in a trace of a version. Domains, barriers, word numbers and write responses are
--- at most 3, a write snoop at most 7, a snoop response at most 1f (hexadecimal). MEM is no record of version 1.
+-- Each number has the digits of its field in a trace of a version. Domains, barriers, word numbers
+-- and write responses are at most 3, a write snoop at most 7, a snoop response at most 1f
+-- (hexadecimal). MEM is no record of version 1.
 abbrev pub InRange : ℕ → Event → Type 0
 InRange version (Ar port id addr snoop dom bar lock) =
     IsPort version port × IsDigit id × IsAddress addr × IsDigit snoop × (dom ≤ 3) × (bar ≤ 3)
-InRange version (R port id resp last word) = IsPort version port × IsDigit id × IsDigit resp × IsWord word
+InRange version (R port id resp last word) =
+    IsPort version port × IsDigit id × IsDigit resp × IsWord word
 InRange version (Rk port st) = IsPort version port
 InRange version (Aw port id addr snoop dom bar) =
     IsPort version port × IsDigit id × IsAddress addr × (snoop ≤ 7) × (dom ≤ 3) × (bar ≤ 3)
@@ -56,7 +58,9 @@ InRange version (Cd port last word) = IsPort version port × IsWord word
 InRange version (G port chan id) = IsPort version port × IsDigit id
 InRange version (M port chan id line) = IsPort version port × IsDigit id × IsLine line
 InRange version (S port addr st) = IsPort version port × IsAddress addr
-InRange version (L port addr w x word) = IsPort version port × IsAddress addr × (w ≤ 3) × IsWord word
-InRange version (D port addr strobe x line) = IsPort version port × IsAddress addr × (strobe < 2 ^ 64) × IsLine line
+InRange version (L port addr w x word) =
+    IsPort version port × IsAddress addr × (w ≤ 3) × IsWord word
+InRange version (D port addr strobe x line) =
+    IsPort version port × IsAddress addr × (strobe < 2 ^ 64) × IsLine line
 InRange version (Op port k res) = IsPort version port × (k < 2 ^ 16)
 InRange version (Mem addr line) = (version ≢ 1) × IsAddress addr × IsLine line

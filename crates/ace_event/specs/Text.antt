@@ -19,8 +19,8 @@ unfoldable pub hex_text : ℕ → ℕ → List ℕ
 hex_text zero n = []
 hex_text (suc count) n = hex_text count (n / 16) ++ digit_char (n % 16) ∷ []
 
--- The four words of a line in order of address. In a word the lowest address is the most significant byte, so each is
--- written as the number that it is.
+-- The four words of a line in order of address. In a word the lowest address is the most
+-- significant byte, so each is written as the number that it is.
 abbrev pub line_digits : Line → List ℕ
 line_digits line = flat_map (hex_text 32) line.words
 
@@ -57,27 +57,37 @@ fields version (Ar port id addr snoop dom bar lock) =
     codes "AR" ∷ port_text version port ∷ hex_text 1 id ∷ hex_text 8 addr ∷ hex_text 1 snoop
     ∷ hex_text 1 dom ∷ hex_text 1 bar ∷ flag_text lock ∷ []
 fields version (R port id resp last word) =
-    codes "R" ∷ port_text version port ∷ hex_text 1 id ∷ hex_text 1 resp ∷ flag_text last ∷ hex_text 32 word ∷ []
+    codes "R" ∷ port_text version port ∷ hex_text 1 id ∷ hex_text 1 resp
+    ∷ flag_text last ∷ hex_text 32 word ∷ []
 fields version (Rk port st) = codes "RK" ∷ port_text version port ∷ state_text st ∷ []
 fields version (Aw port id addr snoop dom bar) =
     codes "AW" ∷ port_text version port ∷ hex_text 1 id ∷ hex_text 8 addr ∷ hex_text 1 snoop
     ∷ hex_text 1 dom ∷ hex_text 1 bar ∷ []
 fields version (W port strb last word) =
     codes "W" ∷ port_text version port ∷ hex_text 4 strb ∷ flag_text last ∷ hex_text 32 word ∷ []
-fields version (B port id resp) = codes "B" ∷ port_text version port ∷ hex_text 1 id ∷ hex_text 1 resp ∷ []
+fields version (B port id resp) =
+    codes "B" ∷ port_text version port ∷ hex_text 1 id ∷ hex_text 1 resp ∷ []
 fields version (Wk port st) = codes "WK" ∷ port_text version port ∷ state_text st ∷ []
-fields version (Ac port addr snoop) = codes "AC" ∷ port_text version port ∷ hex_text 8 addr ∷ hex_text 1 snoop ∷ []
-fields version (Cr port resp st) = codes "CR" ∷ port_text version port ∷ hex_text 2 resp ∷ state_text st ∷ []
-fields version (Cd port last word) = codes "CD" ∷ port_text version port ∷ flag_text last ∷ hex_text 32 word ∷ []
-fields version (G port chan id) = codes "G" ∷ port_text version port ∷ channel_text chan ∷ hex_text 1 id ∷ []
+fields version (Ac port addr snoop) =
+    codes "AC" ∷ port_text version port ∷ hex_text 8 addr ∷ hex_text 1 snoop ∷ []
+fields version (Cr port resp st) =
+    codes "CR" ∷ port_text version port ∷ hex_text 2 resp ∷ state_text st ∷ []
+fields version (Cd port last word) =
+    codes "CD" ∷ port_text version port ∷ flag_text last ∷ hex_text 32 word ∷ []
+fields version (G port chan id) =
+    codes "G" ∷ port_text version port ∷ channel_text chan ∷ hex_text 1 id ∷ []
 fields version (M port chan id line) =
     codes "M" ∷ port_text version port ∷ channel_text chan ∷ hex_text 1 id ∷ line_digits line ∷ []
-fields version (S port addr st) = codes "S" ∷ port_text version port ∷ hex_text 8 addr ∷ state_text st ∷ []
+fields version (S port addr st) =
+    codes "S" ∷ port_text version port ∷ hex_text 8 addr ∷ state_text st ∷ []
 fields version (L port addr w x word) =
-    codes "L" ∷ port_text version port ∷ hex_text 8 addr ∷ hex_text 1 w ∷ flag_text x ∷ hex_text 32 word ∷ []
+    codes "L" ∷ port_text version port ∷ hex_text 8 addr ∷ hex_text 1 w
+    ∷ flag_text x ∷ hex_text 32 word ∷ []
 fields version (D port addr strobe x line) =
-    codes "D" ∷ port_text version port ∷ hex_text 8 addr ∷ hex_text 16 strobe ∷ flag_text x ∷ line_digits line ∷ []
-fields version (Op port k res) = codes "OP" ∷ port_text version port ∷ hex_text 4 k ∷ outcome_text res ∷ []
+    codes "D" ∷ port_text version port ∷ hex_text 8 addr ∷ hex_text 16 strobe
+    ∷ flag_text x ∷ line_digits line ∷ []
+fields version (Op port k res) =
+    codes "OP" ∷ port_text version port ∷ hex_text 4 k ∷ outcome_text res ∷ []
 fields version (Mem addr line) = codes "MEM" ∷ hex_text 8 addr ∷ line_digits line ∷ []
 
 -- The line of an event, without its line feed: one space stands between each two fields.
@@ -94,7 +104,8 @@ version_text version = if version == 1 then codes "ACE 1" else codes "ACE 2"
 
 -- the two header lines
 abbrev pub header_text : Header → List ℕ
-header_text header = line_text (version_text header.version) ++ line_text (codes "PORTS " ++ port_letters header)
+header_text header =
+    line_text (version_text header.version) ++ line_text (codes "PORTS " ++ port_letters header)
 
 -- the lines of the events, oldest first, in a trace of a version
 abbrev pub events_text : ℕ → List Event → List ℕ

@@ -16,8 +16,9 @@ pub enum Outcome {
     Fail,
 }
 
-/// One event of a trace: a completed handshake, a grant, a memory write, a silent transition, a load, a store, the end
-/// of an operation, or the opening memory of a line. `port` is the number of the port, from 0; `addr` is a byte address.
+/// One event of a trace: a completed handshake, a grant, a memory write, a silent transition, a
+/// load, a store, the end of an operation, or the opening memory of a line. `port` is the number of
+/// the port, from 0; `addr` is a byte address.
 #[derive(Clone, Copy, Debug, PartialEq, Eq)]
 pub enum Event {
     /// A read address: identifier, ARSNOOP, ARDOMAIN, ARBAR, and whether the access is exclusive.

@@ -12,8 +12,8 @@ pub enum PortKind {
     Lite,
 }
 
-/// The header of a trace: its version, 1 or 2, how many ports it has, and which of them are ACE ports: bit p of `ace` is 1
-/// exactly where port p is one.
+/// The header of a trace: its version, 1 or 2, how many ports it has, and which of them are ACE
+/// ports: bit p of `ace` is 1 exactly where port p is one.
 #[derive(Clone, Copy, Debug, PartialEq, Eq)]
 pub struct Header {
     pub version: u8,

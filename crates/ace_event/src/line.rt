@@ -6,8 +6,9 @@ ghost use Rattle.ace_event.specs.Bytes.{byte_of, stored_byte, merged_word, merge
 
 use std::simd::prelude::*;
 
-/// The 64 bytes of a cache line, four words in order of address. The most significant byte of a word has its lowest
-/// address, so byte n of the line is byte n mod 16 of word n div 16, counted from the most significant.
+/// The 64 bytes of a cache line, four words in order of address. The most significant byte of a
+/// word has its lowest address, so byte n of the line is byte n mod 16 of word n div 16, counted
+/// from the most significant.
 #[derive(Clone, Copy, Debug, PartialEq, Eq)]
 pub struct Line {
     pub words: [u128; 4],
@@ -32,8 +33,8 @@ fn word_of(lanes: u8x16) -> u128
     u128::from(halves[1]) << 64 | u128::from(halves[0])
 }
 
-/// Word k after the store. Lane i is byte 15 - i of the word in order of address, and `bits` has the bit of that byte in
-/// its half of the strobe of the word.
+/// Word k after the store. Lane i is byte 15 - i of the word in order of address, and `bits` has
+/// the bit of that byte in its half of the strobe of the word.
 #[inline(always)]
 fn merge_word(line: &Line, strobe: u64, bytes: &Line, k: usize) -> u128
     requires { k < 4 }
@@ -47,8 +48,8 @@ fn merge_word(line: &Line, strobe: u64, bytes: &Line, k: usize) -> u128
     word_of(stored.select(lanes_of(bytes.words[k]), lanes_of(line.words[k])))
 }
 
-/// The line after a store: byte n, from 0 to 63, is that of `bytes` where bit n of the strobe is 1, and else it stays
-/// as `line` has it.
+/// The line after a store: byte n, from 0 to 63, is that of `bytes` where bit n of the strobe is 1,
+/// and else it stays as `line` has it.
 pub fn merge(line: Line, strobe: u64, bytes: Line) -> Line
     ensures value { result ≡ merged line strobe bytes }
     ensures by_byte { (n : ℕ) → n < 64 → byte_of result n ≡ stored_byte line strobe bytes n }

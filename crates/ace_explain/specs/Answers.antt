@@ -18,7 +18,9 @@ abbrev pub is_dataless : SnoopKind → Bool
 is_dataless MakeInvalid = true
 is_dataless _ = false
 
--- the response with DataTransfer where the snoop takes data, IsShared where the line is kept, and PassDirty or not
+-- the response with DataTransfer where the snoop takes data, IsShared where the line is kept, and
+-- PassDirty or not
 abbrev pub response_to : SnoopKind → LineState → Bool → ℕ
 response_to kind next passes =
-    (if is_dataless kind then 0 else 1) + (if passes then 4 else 0) + (if is_invalid next then 0 else 8)
+    (if is_dataless kind then 0 else 1) + (if passes then 4 else 0)
+    + (if is_invalid next then 0 else 8)

@@ -5,7 +5,8 @@ use Rattle.ace_clauses.specs.CacheClauses.{last_exclusive_load, has_stored_since
 use Rattle.ace_explain.specs.declared.last_loads.LastLoad.{LastLoad}
 use Rattle.ace_explain.specs.declared.last_loads.LastLoads.{LastLoads}
 
--- It is the port's last exclusive load, and says whether the port has made an exclusive store since.
+-- It is the port's last exclusive load, and says whether the port has made an exclusive store
+-- since.
 pub record LoadStands (past : Trace) (p : ℕ) (o : Option LastLoad) : Type 0 where
   pub line : last_exclusive_load past p ≡ option_map (λ (w : LastLoad). w.line) o
   pub stored : (w : LastLoad) → o ≡ Some w → w.stored ≡ has_stored_since past p

@@ -1,4 +1,5 @@
-//! The clauses of the rules of write data, grants and snoops, K11 to K14 and K17. K14 has one clause.
+//! The clauses of the rules of write data, grants and snoops, K11 to K14 and K17. K14 has one
+//! clause.
 
 ghost use Rattle.std.specs.Prelude.{◌≡◌, ◌==◌, ℕ, Some, true};
 ghost use Rattle.ace_event.specs.declared.event.Event.TheVariants.{W, G, Ac, Cd};

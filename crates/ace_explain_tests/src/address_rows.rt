@@ -1,5 +1,5 @@
-//! For each clause of K1 to K10 a short trace whose last event breaks it: what stands above a row is
-//! not so.
+//! For each clause of K1 to K10 a short trace whose last event breaks it: what stands above a row
+//! is not so.
 
 use crate::rows::{Row, ac, ar, aw, cr, d, g, l, mem, op, r, rk, row};
 use ace_clauses::Letter;
@@ -183,7 +183,8 @@ pub const ADDRESS_ROWS: &[Row] = &[
         (9, H),
         [ar!(1, 0, 0x1000, 0xe, 1, 0, false)]
     ),
-    // K10a: a memory update or Evict is issued with no WriteUnique or WriteLineUnique of the port outstanding
+    // K10a: a memory update or Evict is issued with no WriteUnique or WriteLineUnique of the port
+    // outstanding
     row!(
         (1, "PORTS A"),
         (10, A),
@@ -210,7 +211,8 @@ pub const ADDRESS_ROWS: &[Row] = &[
             aw!(0, 0, 0x40, 3, 1, 0)
         ]
     ),
-    // K10b: a WriteUnique or WriteLineUnique is issued with no memory update or Evict of the port outstanding
+    // K10b: a WriteUnique or WriteLineUnique is issued with no memory update or Evict of the port
+    // outstanding
     row!(
         (1, "PORTS A"),
         (10, B),

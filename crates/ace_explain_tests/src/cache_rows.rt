@@ -1,5 +1,5 @@
-//! For each clause of K29 to K33 a short trace whose last event breaks it: what stands above a row is
-//! not so.
+//! For each clause of K29 to K33 a short trace whose last event breaks it: what stands above a row
+//! is not so.
 
 use crate::rows::{Row, ar, aw, d, g, l, r, rk, row, s};
 use ace_clauses::Letter;

@@ -1,5 +1,5 @@
-//! For each clause of K34 to K40 a short trace whose last event breaks it: what stands above a row is
-//! not so.
+//! For each clause of K34 to K40 a short trace whose last event breaks it: what stands above a row
+//! is not so.
 
 use crate::rows::{Row, ac, ar, aw, cr, g, op, r, row};
 use ace_clauses::Letter;

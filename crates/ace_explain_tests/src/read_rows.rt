@@ -1,5 +1,5 @@
-//! For each clause of K18 to K23 a short trace whose last event breaks it: what stands above a row is
-//! not so.
+//! For each clause of K18 to K23 a short trace whose last event breaks it: what stands above a row
+//! is not so.
 
 use crate::rows::{Row, ac, ar, cd, cr, d, g, r, rk, row};
 use ace_clauses::Letter;
@@ -91,7 +91,8 @@ pub const READ_ROWS: &[Row] = &[
             r!(1, 0, 0, false, 0)
         ]
     ),
-    // K18h: passed data are taken by a ReadShared, ReadNotSharedDirty or ReadUnique, or were written to memory
+    // K18h: passed data are taken by a ReadShared, ReadNotSharedDirty or ReadUnique, or were
+    // written to memory
     row!(
         (1, "PORTS AA"),
         (18, H),
@@ -269,7 +270,8 @@ pub const READ_ROWS: &[Row] = &[
             r!(0, 1, 0, true, 0x400000000000000000)
         ]
     ),
-    // K20b: a transfer has the word of the reply: the first snoop answer with data, else memory before the first transfer
+    // K20b: a transfer has the word of the reply: the first snoop answer with data, else memory
+    // before the first transfer
     row!(
         (2, "PORTS L"),
         (20, B),

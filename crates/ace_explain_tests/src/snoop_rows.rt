@@ -1,5 +1,5 @@
-//! For each clause of K11 to K17 a short trace whose last event breaks it: what stands above a row is
-//! not so.
+//! For each clause of K11 to K17 a short trace whose last event breaks it: what stands above a row
+//! is not so.
 
 use crate::rows::{Row, ac, ar, aw, b, cd, cr, d, g, r, rk, row, w};
 use ace_clauses::Letter;

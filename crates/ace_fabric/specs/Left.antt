@@ -25,7 +25,8 @@ pub record PortStands (plan : Plan) (past : Trace) (p : ℕ) (s : PortLeft) : Ty
 -- what is left of a port after an event of it
 abbrev pub left_after : Event → PortLeft → PortLeft
 left_after (Op q k res) s = record { operations = s.operations - 1; snoops = s.snoops }
-left_after (Ac q addr snoop) s = record { operations = s.operations; snoops = min (s.snoops + 1) 65535 }
+left_after (Ac q addr snoop) s =
+    record { operations = s.operations; snoops = min (s.snoops + 1) 65535 }
 left_after (Cr q resp st) s = record { operations = s.operations; snoops = s.snoops - 1 }
 left_after _ s = s
 
@@ -42,7 +43,8 @@ counted_port _ = None
 
 -- the counts are those of the ports
 abbrev pub CountsStand : Plan → Trace → List PortLeft → Type 0
-CountsStand plan past counts = (p : ℕ) (k : PortLeft) → slice_get counts p ≡ Some k → PortStands plan past p k
+CountsStand plan past counts =
+    (p : ℕ) (k : PortLeft) → slice_get counts p ≡ Some k → PortStands plan past p k
 
 -- It is what is left in a run of the plan, with room for what comes.
 pub record LeftStands (s : Left) (plan : Plan) (past : Trace) : Type 0 where
@@ -60,4 +62,5 @@ is_empty xs = length xs == 0
 -- nothing is left of the port, nor any transaction of it outstanding
 abbrev pub is_port_done : Plan → Trace → ℕ → Bool
 is_port_done plan past p =
-    is_port_at_end plan past p && (is_empty (pending_of plan.header past p Read) && is_empty (pending_of plan.header past p Write))
+    is_port_at_end plan past p && (is_empty (pending_of plan.header past p Read)
+    && is_empty (pending_of plan.header past p Write))

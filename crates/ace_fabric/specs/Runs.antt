@@ -43,10 +43,13 @@ grown o run = record run { plan = longer run.plan o; room = run.room - 1 }
 
 -- The turn of the port put a step, or nothing, as the port isn't enabled.
 abbrev pub IsTurnOf : Plan → Trace → ℕ → List Event → Type 0
-IsTurnOf plan past p burst = IsStep plan past p burst ⊎ ((burst ≡ []) × (is_enabled plan past p ≡ false))
+IsTurnOf plan past p burst =
+    IsStep plan past p burst ⊎ ((burst ≡ []) × (is_enabled plan past p ≡ false))
 
--- The events are those of a turn for each of the numbers, one after the other, each of the port of the number modulo the number of ports.
+-- The events are those of a turn for each of the numbers, one after the other, each of the port of
+-- the number modulo the number of ports.
 abbrev pub AreTurnsBy : Plan → List ℕ → Trace → Trace → Type 0
 AreTurnsBy plan [] past now = now ≡ past
 AreTurnsBy plan (n ∷ numbers) past now =
-    (burst : List Event) × IsTurnOf plan past (n % plan.header.ports) burst × AreTurnsBy plan numbers (onto burst past) now
+    (burst : List Event) × IsTurnOf plan past (n % plan.header.ports) burst
+    × AreTurnsBy plan numbers (onto burst past) now

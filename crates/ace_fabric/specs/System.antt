@@ -25,6 +25,7 @@ abbrev pub plan_of : Run → PlanWithRoom
 plan_of run = record { plan = run.plan; room = run.room }
 
 -- It is the master of the port, and stands for the plan and the trace.
-pub record IsMasterOf {E : Type 0} (g : Ghosts E) (plan : Plan) (past : Trace) (port : ℕ) (master : E) : Type 0 where
+pub record IsMasterOf {E : Type 0} (g : Ghosts E) (plan : Plan)
+    (past : Trace) (port : ℕ) (master : E) : Type 0 where
   pub serves : (p : ℕ) → g.serves master p ≡ (p == port)
   pub stands : g.stands master plan past

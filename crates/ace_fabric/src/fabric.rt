@@ -29,15 +29,16 @@ use std::marker::Model;
 /// How many events there can be for each operation of a plan.
 const MOST: usize = 256;
 
-/// What a turn of a port did: it put a step at the end of the trace, or nothing, as none is enabled for the port.
+/// What a turn of a port did: it put a step at the end of the trace, or nothing, as none is enabled
+/// for the port.
 #[derive(Clone, Copy, Debug, PartialEq, Eq)]
 pub enum Turn {
     Moved,
     Idle,
 }
 
-/// A plan, the trace of its run so far, and the engines that stand for both: a home, the engine of memory updates, the one of barriers and DVM,
-/// and a master for each port.
+/// A plan, the trace of its run so far, and the engines that stand for both: a home, the engine of
+/// memory updates, the one of barriers and DVM, and a master for each port.
 #[derive(Drop)]
 pub struct Fabric<H: Engine, U: Engine, O: Engine, M: Engine> {
     plan: Plan,
@@ -60,7 +61,11 @@ impl<H: Engine, U: Engine, O: Engine, M: Engine> Model for Fabric<H, U, O, M> {
 
     ghost Value = { Run };
 
-    ghost view = { λ s. record { plan = s.plan.plan; room = s.plan.room; past = reverse s.events.items } };
+    ghost view = { λ s. record {
+      plan = s.plan.plan;
+      room = s.plan.room;
+      past = reverse s.events.items;
+    } };
 
     ghost invariant = { λ s. IsRunning H.Engine U.Engine O.Engine M.Engine s.plan
         (reverse s.events.items) (vec_capacity s.events) s.home s.update s.order s.masters.items
@@ -90,8 +95,13 @@ fn append(events: &mut Vec<Event>, burst: &Burst)
 /// Puts the operation at the end of the plan, which is right then.
 fn lengthen(plan: &mut Plan, port: u8, op: Op)
     requires room { plan.old.room ≢ 0 }
-    requires right { IsRightAfter plan.old.plan.header plan.old.plan.operations (record { port = port; op = op }) }
-    ensures value { plan.new ≡ record { plan = longer plan.old.plan (record { port = port; op = op }); room = plan.old.room - 1 } }
+    requires right { IsRightAfter plan.old.plan.header plan.old.plan.operations
+        (record { port = port; op = op }) }
+    ensures value { plan.new ≡ record {
+      plan = longer plan.old.plan
+          (record { port = port; op = op });
+      room = plan.old.room - 1;
+    } }
     ensures right { IsRight plan.new.plan }
 {
     plan.push(port, op);
@@ -99,8 +109,8 @@ fn lengthen(plan: &mut Plan, port: u8, op: Op)
 }
 
 impl<H: Engine + Drop, U: Engine + Drop, O: Engine + Drop, M: Engine + Drop> Fabric<H, U, O, M> {
-    /// The run of the plan with these engines, which stand for it and the empty trace. It takes the memory for all events that the plan and its
-    /// room can have.
+    /// The run of the plan with these engines, which stand for it and the empty trace. It takes the
+    /// memory for all events that the plan and its room can have.
     ///
     /// # Errors
     ///
@@ -114,7 +124,8 @@ impl<H: Engine + Drop, U: Engine + Drop, O: Engine + Drop, M: Engine + Drop> Fab
         order: O,
         masters: Vec<M>,
     ) -> Result<Fabric<H, U, O, M>, NoMemory>
-        requires { AreEngines H.Engine U.Engine O.Engine M.Engine plan.plan [] home update order masters.items }
+        requires { AreEngines H.Engine U.Engine O.Engine M.Engine plan.plan
+            [] home update order masters.items }
         ensures { IfOk result (λ s. s ≡ record { plan = plan.plan; room = plan.room; past = [] }) }
     {
         let left = Left::new(alloc, plan.view())?;
@@ -137,13 +148,15 @@ impl<H: Engine + Drop, U: Engine + Drop, O: Engine + Drop, M: Engine + Drop> Fab
 }
 
 impl<H: LineEngine, U: Engine, O: Engine, M: Engine> Fabric<H, U, O, M> {
-    /// What holds of each run: the plan is right, the trace is accepted, follows the plan so far, is lean and is a list of steps; it isn't long; and
-    /// until the run is done, some port is enabled.
+    /// What holds of each run: the plan is right, the trace is accepted, follows the plan so far,
+    /// is lean and is a list of steps; it isn't long; and until the run is done, some port is
+    /// enabled.
     pub fn keeps(&self)
         ensures legal { IsLegal self.now.plan self.now.past }
         ensures steps { AreSteps self.now.plan self.now.past }
         ensures few { length self.now.past ≤ length self.now.plan.operations * 256 }
-        ensures goes_on { (Done self.now.plan self.now.past → ⊥) → (p : ℕ) × (p < self.now.plan.header.ports) × Enabled self.now.plan self.now.past p }
+        ensures goes_on { (Done self.now.plan self.now.past → ⊥)
+            → (p : ℕ) × (p < self.now.plan.header.ports) × Enabled self.now.plan self.now.past p }
     {
         let _ = &self.events;
     }
@@ -162,7 +175,8 @@ impl<H: LineEngine, U: Engine, O: Engine, M: Engine> Fabric<H, U, O, M> {
         &self.plan
     }
 
-    /// Whether the run is done: every operation has retired, no transaction is outstanding, no snoop is unanswered, and no DVM Complete is owed.
+    /// Whether the run is done: every operation has retired, no transaction is outstanding, no
+    /// snoop is unanswered, and no DVM Complete is owed.
     pub fn done(&self) -> bool
         ensures { result ≡ is_done self.now.plan self.now.past }
     {
@@ -175,8 +189,11 @@ impl<H: LineEngine, U: Engine, O: Engine, M: Engine> Fabric<H, U, O, M> {
     /// takes no memory.
     pub fn turn(&mut self, port: u8) -> Turn
         requires { port < self.old.plan.header.ports }
-        ensures moved { result ≡ Turn.Moved → (burst : List Event) × IsStep self.old.plan self.old.past port burst × (self.new ≡ continued burst self.old) }
-        ensures idle { result ≡ Turn.Idle → (self.new ≡ self.old) × (is_enabled self.old.plan self.old.past port ≡ false) }
+        ensures moved { result ≡ Turn.Moved → (burst : List Event)
+            × IsStep self.old.plan self.old.past port burst
+            × (self.new ≡ continued burst self.old) }
+        ensures idle { result ≡ Turn.Idle → (self.new ≡ self.old)
+            × (is_enabled self.old.plan self.old.past port ≡ false) }
     {
         if self.idle.has(port) {
             return Turn::Idle;
@@ -190,9 +207,9 @@ impl<H: LineEngine, U: Engine, O: Engine, M: Engine> Fabric<H, U, O, M> {
         }
     }
 
-    /// A turn of the port that snoops for each line only ports of a set, which has each ACE port whose
-    /// state of the line isn't I. The engines are asked even where the last turn put no step, since
-    /// another set may be given. It takes no memory.
+    /// A turn of the port that snoops for each line only ports of a set, which has each ACE port
+    /// whose state of the line isn't I. The engines are asked even where the last turn put no step,
+    /// since another set may be given. It takes no memory.
     pub fn turn_among<F: Among>(&mut self, port: u8, among: &F) -> Turn
         requires port { port < self.old.plan.header.ports }
         requires holders { HasHolders (F.has among.now) self.old.plan.header self.old.past }
@@ -220,7 +237,8 @@ impl<H: LineEngine, U: Engine, O: Engine, M: Engine> Fabric<H, U, O, M> {
         Turn::Moved
     }
 
-    /// A turn of each port, in order, and whether one of them put a step. Where none did, the run is done.
+    /// A turn of each port, in order, and whether one of them put a step. Where none did, the run
+    /// is done.
     fn round(&mut self) -> bool
         ensures kept { (events : List Event) × (self.new ≡ continued events self.old) }
         ensures longer { IsTrue result → length self.old.past < length self.new.past }
@@ -246,9 +264,11 @@ impl<H: LineEngine, U: Engine, O: Engine, M: Engine> Fabric<H, U, O, M> {
         }
     }
 
-    /// A turn for each number, one after the other, of the port of the number modulo the number of ports.
+    /// A turn for each number, one after the other, of the port of the number modulo the number of
+    /// ports.
     fn take_turns(&mut self, turns: &[u8])
-        ensures { (events : List Event) × (self.new ≡ continued events self.old) × AreTurnsBy self.old.plan turns.now self.old.past self.new.past }
+        ensures { (events : List Event) × (self.new ≡ continued events self.old)
+            × AreTurnsBy self.old.plan turns.now self.old.past self.new.past }
     {
         for number in turns {
             let ports = self.plan.view().header().ports;
@@ -256,10 +276,11 @@ impl<H: LineEngine, U: Engine, O: Engine, M: Engine> Fabric<H, U, O, M> {
         }
     }
 
-    /// A turn for each number, one after the other, of the port of the number modulo the number of ports; then rounds of turns until the run is done.
-    /// It takes no memory.
+    /// A turn for each number, one after the other, of the port of the number modulo the number of
+    /// ports; then rounds of turns until the run is done. It takes no memory.
     pub fn drain_by(&mut self, turns: &[u8])
-        ensures turns { (middle : Trace) × AreTurnsBy self.old.plan turns.now self.old.past middle × (events : List Event) × (self.new ≡ record self.old { past = onto events middle }) }
+        ensures turns { (middle : Trace) × AreTurnsBy self.old.plan turns.now self.old.past middle
+            × (events : List Event) × (self.new ≡ record self.old { past = onto events middle }) }
         ensures done { Done self.new.plan self.new.past }
     {
         self.take_turns(turns);
@@ -268,10 +289,12 @@ impl<H: LineEngine, U: Engine, O: Engine, M: Engine> Fabric<H, U, O, M> {
 }
 
 impl<H: Engine, U: Engine, O: Engine, M: Master> Fabric<H, U, O, M> {
-    /// Puts the operation at the end of the plan, where it can stand there, and takes one from the room. The trace stays. It takes no memory.
+    /// Puts the operation at the end of the plan, where it can stand there, and takes one from the
+    /// room. The trace stays. It takes no memory.
     pub fn push(&mut self, port: u8, op: Op)
         requires room { self.old.room ≢ 0 }
-        requires right { IsRightAfter self.old.plan.header self.old.plan.operations (record { port = port; op = op }) }
+        requires right { IsRightAfter self.old.plan.header self.old.plan.operations
+            (record { port = port; op = op }) }
         ensures { self.new ≡ grown (record { port = port; op = op }) self.old }
     {
         lengthen(&mut self.plan, port, op);

@@ -37,7 +37,8 @@ pub fn hear_all<A: Engine, B: Engine, E: Engine>(
 )
     ensures one { HasHeard A.Engine burst.now one.old one.new }
     ensures other { HasHeard B.Engine burst.now other.old other.new }
-    ensures engines { HaveHeard E.Engine burst.now but (length engines.old) engines.old engines.new }
+    ensures engines { HaveHeard E.Engine burst.now but
+        (length engines.old) engines.old engines.new }
 {
     for i in 0..burst.len() {
         let event = burst.get(i);

@@ -32,7 +32,8 @@ pub struct PortLeft {
     pub snoops: u16,
 }
 
-/// What is left to do in a run: of each port, its operations, snoops and transactions, and the DVM Completes that it owes.
+/// What is left to do in a run: of each port, its operations, snoops and transactions, and the DVM
+/// Completes that it owes.
 #[derive(Drop)]
 pub struct Left {
     ports: PortCheck,
@@ -65,7 +66,8 @@ fn left_after(kept: PortLeft, event: &Event) -> PortLeft
 
 /// The event of the port is counted, where there is such a port.
 fn count_at(counts: &mut [PortLeft], port: u8, event: &Event)
-    ensures own { (x : PortLeft) → slice_get counts.old port ≡ Some x → slice_get counts.new port ≡ Some (left_after event.now x) }
+    ensures own { (x : PortLeft) → slice_get counts.old port ≡ Some x
+        → slice_get counts.new port ≡ Some (left_after event.now x) }
     ensures others { (k : ℕ) → k ≢ port → slice_get counts.new k ≡ slice_get counts.old k }
 {
     let own = usize::from(port);
@@ -86,7 +88,8 @@ fn with_one_more(kept: PortLeft) -> PortLeft
 
 /// One more operation of the port is counted, where there is such a port.
 fn count_one_more(counts: &mut [PortLeft], port: u8)
-    ensures own { (x : PortLeft) → slice_get counts.old port ≡ Some x → slice_get counts.new port ≡ Some (with_one_more x) }
+    ensures own { (x : PortLeft) → slice_get counts.old port ≡ Some x
+        → slice_get counts.new port ≡ Some (with_one_more x) }
     ensures others { (k : ℕ) → k ≢ port → slice_get counts.new k ≡ slice_get counts.old k }
 {
     let own = usize::from(port);
@@ -107,7 +110,8 @@ fn counted_port(event: &Event) -> Option<u8>
 
 /// The next event of the trace is counted.
 fn note(counts: &mut [PortLeft], event: &Event)
-    ensures { (plan : Plan) (past : Trace) → CountsStand plan past counts.old → IsLegal plan (event.now ∷ past) → CountsStand plan (event.now ∷ past) counts.new }
+    ensures { (plan : Plan) (past : Trace) → CountsStand plan past counts.old
+        → IsLegal plan (event.now ∷ past) → CountsStand plan (event.now ∷ past) counts.new }
 {
     if let Some(port) = counted_port(event) {
         count_at(counts, port, event);
@@ -193,7 +197,8 @@ impl Left {
 
     /// Hears the next event of the trace. It takes no memory.
     pub fn hear(&mut self, event: &Event)
-        ensures { (plan : Plan) (past : Trace) → LeftStands self.old plan past → IsLegal plan (event.now ∷ past) → LeftStands self.new plan (event.now ∷ past) }
+        ensures { (plan : Plan) (past : Trace) → LeftStands self.old plan past
+            → IsLegal plan (event.now ∷ past) → LeftStands self.new plan (event.now ∷ past) }
     {
         self.system.hear(&self.ports, event);
         self.ports.hear(event);
@@ -202,7 +207,8 @@ impl Left {
 
     /// The port owes a DVM Complete.
     fn owes(&self, port: u8) -> bool
-        ensures { (plan : Plan) (past : Trace) → LeftStands self.now plan past → port < plan.header.ports → result ≡ owes_completion past port }
+        ensures { (plan : Plan) (past : Trace) → LeftStands self.now plan past
+            → port < plan.header.ports → result ≡ owes_completion past port }
     {
         self.system.rule_of_completion_ar(port, 0).is_none()
     }
@@ -210,7 +216,8 @@ impl Left {
     /// Nothing is left of the port, nor any transaction of it outstanding.
     fn is_port_done(&self, port: u8) -> bool
         requires { port < length self.now.counts.items }
-        ensures { (plan : Plan) (past : Trace) → LeftStands self.now plan past → result ≡ is_port_done plan past port }
+        ensures { (plan : Plan) (past : Trace) → LeftStands self.now plan past
+            → result ≡ is_port_done plan past port }
     {
         let kept = kept_at(self.counts.as_slice(), port);
         let at_end = is_at_end(kept, self.owes(port));
@@ -222,7 +229,8 @@ impl Left {
     /// Nothing is left of the ports, of which there are so many: the run is done.
     pub fn is_none(&self, ports: u8) -> bool
         requires { ports ≡ length self.now.counts.items }
-        ensures { (plan : Plan) (past : Trace) → LeftStands self.now plan past → result ≡ is_done plan past }
+        ensures { (plan : Plan) (past : Trace) → LeftStands self.now plan past
+            → result ≡ is_done plan past }
     {
         for port in 0..ports {
             if !self.is_port_done(port) {
@@ -234,7 +242,8 @@ impl Left {
 
     /// One more operation of the port, at the end of the plan, hasn't retired. It takes no memory.
     pub fn push(&mut self, port: u8)
-        ensures { (plan : Plan) (past : Trace) (op : Op) → LeftStands self.old plan past → IsRight (longer plan (record { port = port; op = op }))
+        ensures { (plan : Plan) (past : Trace) (op : Op) → LeftStands self.old plan past
+            → IsRight (longer plan (record { port = port; op = op }))
             → LeftStands self.new (longer plan (record { port = port; op = op })) past }
     {
         count_one_more(self.counts.as_mut_slice(), port);
@@ -242,7 +251,8 @@ impl Left {
 
     /// Hears the events of the burst, which come next.
     pub fn hear_all(&mut self, burst: &Burst)
-        ensures { (plan : Plan) (past : Trace) → LeftStands self.old plan past → IsLegal plan (onto burst.now past) → LeftStands self.new plan (onto burst.now past) }
+        ensures { (plan : Plan) (past : Trace) → LeftStands self.old plan past
+            → IsLegal plan (onto burst.now past) → LeftStands self.new plan (onto burst.now past) }
     {
         for i in 0..burst.len() {
             self.hear(&burst.get(i));

@@ -1,4 +1,5 @@
-//! The engines of a run that share one trace: a system of masters and an interconnect, for any engines.
+//! The engines of a run that share one trace: a system of masters and an interconnect, for any
+//! engines.
 #![tactic(auto)]
 
 mod fabric;

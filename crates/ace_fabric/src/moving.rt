@@ -22,12 +22,19 @@ pub fn by_master<H: Engine, U: Engine, O: Engine, M: Engine>(
     port: u8,
     out: &mut Burst,
 ) -> bool
-    requires run { (plan : Plan) × (past : Trace) × AreEngines H.Engine U.Engine O.Engine M.Engine plan past home.old update.old order.old masters.old × (port < plan.header.ports) }
+    requires run { (plan : Plan) × (past : Trace)
+        × AreEngines H.Engine U.Engine O.Engine M.Engine plan past home.old
+        update.old order.old masters.old × (port < plan.header.ports) }
     requires empty { out.old ≡ [] }
-    ensures moved { IsTrue result → (among : PortSets) → HaveMoved among H.Engine U.Engine O.Engine M.Engine port out.new home.old update.old order.old masters.old home.new update.new order.new masters.new }
-    ensures none { result ≡ false → (plan : Plan) (past : Trace) → AreEngines H.Engine U.Engine O.Engine M.Engine plan past home.old update.old order.old masters.old
+    ensures moved { IsTrue result → (among : PortSets)
+        → HaveMoved among H.Engine U.Engine O.Engine M.Engine port out.new
+        home.old update.old order.old masters.old home.new update.new order.new masters.new }
+    ensures none { result ≡ false → (plan : Plan) (past : Trace)
+        → AreEngines H.Engine U.Engine O.Engine M.Engine plan past home.old
+        update.old order.old masters.old
         → is_enabled_by (numbers_of OfMaster) plan past port ≡ false }
-    ensures unchanged { result ≡ false → (home.new ≡ home.old) × (update.new ≡ update.old) × (order.new ≡ order.old) × (masters.new ≡ masters.old) × (out.new ≡ []) }
+    ensures unchanged { result ≡ false → (home.new ≡ home.old) × (update.new ≡ update.old)
+        × (order.new ≡ order.old) × (masters.new ≡ masters.old) × (out.new ≡ []) }
 {
     let own = usize::from(port);
     if !masters[own].turn(port, out) {
@@ -47,12 +54,19 @@ pub fn by_update<H: Engine, U: Engine, O: Engine, M: Engine>(
     port: u8,
     out: &mut Burst,
 ) -> bool
-    requires run { (plan : Plan) × (past : Trace) × AreEngines H.Engine U.Engine O.Engine M.Engine plan past home.old update.old order.old masters.old × (port < plan.header.ports) }
+    requires run { (plan : Plan) × (past : Trace)
+        × AreEngines H.Engine U.Engine O.Engine M.Engine plan past home.old
+        update.old order.old masters.old × (port < plan.header.ports) }
     requires empty { out.old ≡ [] }
-    ensures moved { IsTrue result → (among : PortSets) → HaveMoved among H.Engine U.Engine O.Engine M.Engine port out.new home.old update.old order.old masters.old home.new update.new order.new masters.new }
-    ensures none { result ≡ false → (plan : Plan) (past : Trace) → AreEngines H.Engine U.Engine O.Engine M.Engine plan past home.old update.old order.old masters.old
+    ensures moved { IsTrue result → (among : PortSets)
+        → HaveMoved among H.Engine U.Engine O.Engine M.Engine port out.new
+        home.old update.old order.old masters.old home.new update.new order.new masters.new }
+    ensures none { result ≡ false → (plan : Plan) (past : Trace)
+        → AreEngines H.Engine U.Engine O.Engine M.Engine plan past home.old
+        update.old order.old masters.old
         → is_enabled_by (numbers_of OfUpdates) plan past port ≡ false }
-    ensures unchanged { result ≡ false → (home.new ≡ home.old) × (update.new ≡ update.old) × (order.new ≡ order.old) × (masters.new ≡ masters.old) × (out.new ≡ []) }
+    ensures unchanged { result ≡ false → (home.new ≡ home.old) × (update.new ≡ update.old)
+        × (order.new ≡ order.old) × (masters.new ≡ masters.old) × (out.new ≡ []) }
 {
     if !update.turn(port, out) {
         return false;
@@ -72,12 +86,20 @@ pub fn by_home<H: LineEngine, U: Engine, O: Engine, M: Engine, F: Among>(
     among: &F,
     out: &mut Burst,
 ) -> bool
-    requires run { (plan : Plan) × (past : Trace) × AreEngines H.Engine U.Engine O.Engine M.Engine plan past home.old update.old order.old masters.old × (port < plan.header.ports) × HasHolders (F.has among.now) plan.header past }
+    requires run { (plan : Plan) × (past : Trace)
+        × AreEngines H.Engine U.Engine O.Engine M.Engine plan past home.old update.old order.old
+        masters.old × (port < plan.header.ports)
+        × HasHolders (F.has among.now) plan.header past }
     requires empty { out.old ≡ [] }
-    ensures moved { IsTrue result → HaveMoved (F.has among.now) H.Engine U.Engine O.Engine M.Engine port out.new home.old update.old order.old masters.old home.new update.new order.new masters.new }
-    ensures none { result ≡ false → (plan : Plan) (past : Trace) → AreEngines H.Engine U.Engine O.Engine M.Engine plan past home.old update.old order.old masters.old
+    ensures moved { IsTrue result → HaveMoved (F.has among.now) H.Engine U.Engine O.Engine M.Engine
+        port out.new home.old update.old order.old masters.old home.new
+        update.new order.new masters.new }
+    ensures none { result ≡ false → (plan : Plan) (past : Trace)
+        → AreEngines H.Engine U.Engine O.Engine M.Engine plan past home.old
+        update.old order.old masters.old
         → is_enabled_by_among (F.has among.now) (numbers_of OfHome) plan past port ≡ false }
-    ensures unchanged { result ≡ false → (home.new ≡ home.old) × (update.new ≡ update.old) × (order.new ≡ order.old) × (masters.new ≡ masters.old) × (out.new ≡ []) }
+    ensures unchanged { result ≡ false → (home.new ≡ home.old) × (update.new ≡ update.old)
+        × (order.new ≡ order.old) × (masters.new ≡ masters.old) × (out.new ≡ []) }
 {
     if !home.turn_among(port, among, out) {
         return false;
@@ -96,12 +118,19 @@ pub fn by_order<H: Engine, U: Engine, O: Engine, M: Engine>(
     port: u8,
     out: &mut Burst,
 ) -> bool
-    requires run { (plan : Plan) × (past : Trace) × AreEngines H.Engine U.Engine O.Engine M.Engine plan past home.old update.old order.old masters.old × (port < plan.header.ports) }
+    requires run { (plan : Plan) × (past : Trace)
+        × AreEngines H.Engine U.Engine O.Engine M.Engine plan past home.old
+        update.old order.old masters.old × (port < plan.header.ports) }
     requires empty { out.old ≡ [] }
-    ensures moved { IsTrue result → (among : PortSets) → HaveMoved among H.Engine U.Engine O.Engine M.Engine port out.new home.old update.old order.old masters.old home.new update.new order.new masters.new }
-    ensures none { result ≡ false → (plan : Plan) (past : Trace) → AreEngines H.Engine U.Engine O.Engine M.Engine plan past home.old update.old order.old masters.old
+    ensures moved { IsTrue result → (among : PortSets)
+        → HaveMoved among H.Engine U.Engine O.Engine M.Engine port out.new
+        home.old update.old order.old masters.old home.new update.new order.new masters.new }
+    ensures none { result ≡ false → (plan : Plan) (past : Trace)
+        → AreEngines H.Engine U.Engine O.Engine M.Engine plan past home.old
+        update.old order.old masters.old
         → is_enabled_by (numbers_of OfOrder) plan past port ≡ false }
-    ensures unchanged { result ≡ false → (home.new ≡ home.old) × (update.new ≡ update.old) × (order.new ≡ order.old) × (masters.new ≡ masters.old) × (out.new ≡ []) }
+    ensures unchanged { result ≡ false → (home.new ≡ home.old) × (update.new ≡ update.old)
+        × (order.new ≡ order.old) × (masters.new ≡ masters.old) × (out.new ≡ []) }
 {
     if !order.turn(port, out) {
         return false;
@@ -111,8 +140,8 @@ pub fn by_order<H: Engine, U: Engine, O: Engine, M: Engine>(
     true
 }
 
-/// A step of the first engine that has one for the port: its master, the engine of memory updates, the home, the engine of barriers and DVM. The home
-/// snoops only ports of the sets.
+/// A step of the first engine that has one for the port: its master, the engine of memory updates,
+/// the home, the engine of barriers and DVM. The home snoops only ports of the sets.
 pub fn by_any<H: LineEngine, U: Engine, O: Engine, M: Engine, F: Among>(
     home: &mut H,
     update: &mut U,
@@ -122,12 +151,20 @@ pub fn by_any<H: LineEngine, U: Engine, O: Engine, M: Engine, F: Among>(
     among: &F,
     out: &mut Burst,
 ) -> bool
-    requires run { (plan : Plan) × (past : Trace) × AreEngines H.Engine U.Engine O.Engine M.Engine plan past home.old update.old order.old masters.old × (port < plan.header.ports) × HasHolders (F.has among.now) plan.header past }
+    requires run { (plan : Plan) × (past : Trace)
+        × AreEngines H.Engine U.Engine O.Engine M.Engine plan past home.old update.old order.old
+        masters.old × (port < plan.header.ports)
+        × HasHolders (F.has among.now) plan.header past }
     requires empty { out.old ≡ [] }
-    ensures moved { IsTrue result → HaveMoved (F.has among.now) H.Engine U.Engine O.Engine M.Engine port out.new home.old update.old order.old masters.old home.new update.new order.new masters.new }
-    ensures none { result ≡ false → (plan : Plan) (past : Trace) → AreEngines H.Engine U.Engine O.Engine M.Engine plan past home.old update.old order.old masters.old
+    ensures moved { IsTrue result → HaveMoved (F.has among.now) H.Engine U.Engine O.Engine M.Engine
+        port out.new home.old update.old order.old masters.old home.new
+        update.new order.new masters.new }
+    ensures none { result ≡ false → (plan : Plan) (past : Trace)
+        → AreEngines H.Engine U.Engine O.Engine M.Engine plan past home.old
+        update.old order.old masters.old
         → is_enabled_among (F.has among.now) plan past port ≡ false }
-    ensures unchanged { result ≡ false → (home.new ≡ home.old) × (update.new ≡ update.old) × (order.new ≡ order.old) × (masters.new ≡ masters.old) × (out.new ≡ []) }
+    ensures unchanged { result ≡ false → (home.new ≡ home.old) × (update.new ≡ update.old)
+        × (order.new ≡ order.old) × (masters.new ≡ masters.old) × (out.new ≡ []) }
 {
     if by_master(home, update, order, masters, port, out) {
         return true;

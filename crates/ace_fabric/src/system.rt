@@ -29,7 +29,8 @@ use ace_update::Update;
 use std::alloc::Global;
 use std::marker::Model;
 
-/// A run of a script: its plan, the trace so far, and the engines that carry it out, the masters of all ports and the interconnect.
+/// A run of a script: its plan, the trace so far, and the engines that carry it out, the masters of
+/// all ports and the interconnect.
 #[derive(Drop)]
 pub struct System {
     run: Fabric<Home, Update, Order, ScriptMaster>,
@@ -82,7 +83,8 @@ fn run_with(
     engines: Interconnect,
     masters: Vec<ScriptMaster>,
 ) -> Result<System, NoMemory>
-    requires { AreEngines ⟦<Home as Engine>⟧ ⟦<Update as Engine>⟧ ⟦<Order as Engine>⟧ ⟦<ScriptMaster as Engine>⟧ plan.plan []
+    requires { AreEngines ⟦<Home as Engine>⟧ ⟦<Update as Engine>⟧
+        ⟦<Order as Engine>⟧ ⟦<ScriptMaster as Engine>⟧ plan.plan []
         engines.home engines.update engines.order masters.items }
     ensures { IfOk result (λ s. s ≡ starting plan) }
 {
@@ -95,8 +97,8 @@ fn run_with(
     Ok(System { run })
 }
 
-/// The run of the plan, before its first step. The masters of ACE ports answer snoops by these numbers, where there are some, else as the policy
-/// of the plan says.
+/// The run of the plan, before its first step. The masters of ACE ports answer snoops by these
+/// numbers, where there are some, else as the policy of the plan says.
 fn begin(alloc: Global, plan: &Plan, picks: &[u8]) -> Result<System, NoMemory>
     requires { MayPick plan.now.plan picks.now }
     ensures { IfOk result (λ s. s ≡ starting plan.now) }
@@ -115,7 +117,8 @@ fn begin(alloc: Global, plan: &Plan, picks: &[u8]) -> Result<System, NoMemory>
 }
 
 impl System {
-    /// The run of the plan, before its first step. It takes the memory for all events of the plan's operations and of those that it has room for.
+    /// The run of the plan, before its first step. It takes the memory for all events of the plan's
+    /// operations and of those that it has room for.
     ///
     /// # Errors
     ///
@@ -126,9 +129,10 @@ impl System {
         begin(alloc, plan, &[])
     }
 
-    /// The run of a plan whose policy is `mixed`, before its first step, in which the caller chooses the answers to snoops: the master of each ACE
-    /// port takes for its k-th answer to a snoop of a line, from 0, the permitted one at `picks[k mod len]` modulo their count. There has to be a
-    /// number.
+    /// The run of a plan whose policy is `mixed`, before its first step, in which the caller
+    /// chooses the answers to snoops: the master of each ACE port takes for its k-th answer to a
+    /// snoop of a line, from 0, the permitted one at `picks[k mod len]` modulo their count. There
+    /// has to be a number.
     ///
     /// # Errors
     ///
@@ -141,29 +145,34 @@ impl System {
         begin(alloc, plan, picks)
     }
 
-    /// What holds of each run: the plan is right, the trace is accepted, follows the plan so far, is lean and is a list of steps; it isn't long; and
-    /// until the run is done, some port is enabled.
+    /// What holds of each run: the plan is right, the trace is accepted, follows the plan so far,
+    /// is lean and is a list of steps; it isn't long; and until the run is done, some port is
+    /// enabled.
     pub fn keeps(&self)
         ensures legal { IsLegal self.now.plan self.now.past }
         ensures steps { AreSteps self.now.plan self.now.past }
         ensures few { length self.now.past ≤ length self.now.plan.operations * 256 }
-        ensures goes_on { (Done self.now.plan self.now.past → ⊥) → (p : ℕ) × (p < self.now.plan.header.ports) × Enabled self.now.plan self.now.past p }
+        ensures goes_on { (Done self.now.plan self.now.past → ⊥)
+            → (p : ℕ) × (p < self.now.plan.header.ports) × Enabled self.now.plan self.now.past p }
     {
         self.run.keeps();
     }
 
-    /// A turn of the port: one step of its own, of 1 to 16 events, at the end of the trace. It is `Idle` where none is enabled, and changes nothing
-    /// then. It takes no memory.
+    /// A turn of the port: one step of its own, of 1 to 16 events, at the end of the trace. It is
+    /// `Idle` where none is enabled, and changes nothing then. It takes no memory.
     pub fn turn(&mut self, port: u8) -> Turn
         requires { port < self.old.plan.header.ports }
-        ensures moved { result ≡ Turn.Moved → (burst : List Event) × IsStep self.old.plan self.old.past port burst × (self.new ≡ continued burst self.old) }
-        ensures idle { result ≡ Turn.Idle → (self.new ≡ self.old) × (is_enabled self.old.plan self.old.past port ≡ false) }
+        ensures moved { result ≡ Turn.Moved → (burst : List Event)
+            × IsStep self.old.plan self.old.past port burst
+            × (self.new ≡ continued burst self.old) }
+        ensures idle { result ≡ Turn.Idle → (self.new ≡ self.old)
+            × (is_enabled self.old.plan self.old.past port ≡ false) }
     {
         self.run.turn(port)
     }
 
-    /// A turn of the port, as `turn` takes it, that snoops for each line only ports of a set, which has
-    /// each ACE port whose state of the line isn't I. It takes no memory.
+    /// A turn of the port, as `turn` takes it, that snoops for each line only ports of a set, which
+    /// has each ACE port whose state of the line isn't I. It takes no memory.
     pub fn turn_among<F: Among>(&mut self, port: u8, among: &F) -> Turn
         requires port { port < self.old.plan.header.ports }
         requires holders { HasHolders (F.has among.now) self.old.plan.header self.old.past }
@@ -176,7 +185,8 @@ impl System {
         self.run.turn_among(port, among)
     }
 
-    /// Whether the run is done: every operation has retired, no transaction is outstanding, no snoop is unanswered, and no DVM Complete is owed.
+    /// Whether the run is done: every operation has retired, no transaction is outstanding, no
+    /// snoop is unanswered, and no DVM Complete is owed.
     pub fn done(&self) -> bool
         ensures { result ≡ is_done self.now.plan self.now.past }
     {
@@ -191,19 +201,22 @@ impl System {
         self.run.drain();
     }
 
-    /// A turn for each number, one after the other, of the port of the number modulo the number of ports; then turns of the ports in order until
-    /// the run is done. It takes no memory.
+    /// A turn for each number, one after the other, of the port of the number modulo the number of
+    /// ports; then turns of the ports in order until the run is done. It takes no memory.
     pub fn drain_by(&mut self, turns: &[u8])
-        ensures turns { (middle : Trace) × AreTurnsBy self.old.plan turns.now self.old.past middle × (events : List Event) × (self.new ≡ record self.old { past = onto events middle }) }
+        ensures turns { (middle : Trace) × AreTurnsBy self.old.plan turns.now self.old.past middle
+            × (events : List Event) × (self.new ≡ record self.old { past = onto events middle }) }
         ensures done { Done self.new.plan self.new.past }
     {
         self.run.drain_by(turns);
     }
 
-    /// Puts the operation at the end of the plan, where it can stand there, and takes one from the room. The trace stays. It takes no memory.
+    /// Puts the operation at the end of the plan, where it can stand there, and takes one from the
+    /// room. The trace stays. It takes no memory.
     pub fn push(&mut self, port: u8, op: Op)
         requires room { self.old.room ≢ 0 }
-        requires right { IsRightAfter self.old.plan.header self.old.plan.operations (record { port = port; op = op }) }
+        requires right { IsRightAfter self.old.plan.header self.old.plan.operations
+            (record { port = port; op = op }) }
         ensures { self.new ≡ grown (record { port = port; op = op }) self.old }
     {
         self.run.push(port, op);

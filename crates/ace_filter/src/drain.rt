@@ -77,8 +77,8 @@ fn round(system: &mut System, filter: &mut Filter) -> bool
 }
 
 /// Rounds of turns of the ports, in which only the ports that the filter has for a line are snooped
-/// for it, until the run is done. The filter has heard the trace, and hears each event of the turns.
-/// It takes no memory.
+/// for it, until the run is done. The filter has heard the trace, and hears each event of the
+/// turns. It takes no memory.
 pub fn drain_filtered(system: &mut System, filter: &mut Filter)
     requires heard { FilterStands filter.old system.old.plan.header system.old.past }
     requires room { length system.old.plan.operations

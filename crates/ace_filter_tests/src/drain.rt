@@ -50,8 +50,8 @@ fn snoops(run: Result<System, Fail>) -> Result<Option<usize>, Fail> {
     Ok(if done { Some(count) } else { None })
 }
 
-/// Nobody holds a line that a port loads, so a filter leaves no port to snoop. Without one each load
-/// snoops both other ports.
+/// Nobody holds a line that a port loads, so a filter leaves no port to snoop. Without one each
+/// load snoops both other ports.
 #[test]
 fn a_filter_saves_snoops(rt: HostRuntime) -> Result<(), Fail> {
     let with = snoops(filtered(rt.alloc()))?;

@@ -53,7 +53,8 @@ fn hear_all(filter: &mut Filter, events: &[Event]) {
     }
 }
 
-/// A filter of so many lines whose port 0 read the line by a ReadUnique. The transfers of a read tell a filter nothing, so one stands for its four.
+/// A filter of so many lines whose port 0 read the line by a ReadUnique. The transfers of a read
+/// tell a filter nothing, so one stands for its four.
 fn with_line(alloc: Global, lines: u32) -> Option<Filter> {
     let Ok(mut filter) = Filter::new(alloc, lines) else {
         return None;

@@ -19,9 +19,11 @@ abbrev pub LeavesNothing : Option (List ℕ) → Option (List ℕ) → Type 0
 LeavesNothing None new = IsAtEnd new
 LeavesNothing (Some bytes) new = new ≡ Some []
 
--- Why there is no header, by the bytes and the count of faults before it was read, and those that the source has then.
+-- Why there is no header, by the bytes and the count of faults before it was read, and those that
+-- the source has then.
 abbrev pub HasNoHeader : ReadErr → Option (List ℕ) → ℕ → Option (List ℕ) → ℕ → Type 0
-HasNoHeader (Malformed line reason) old faults new faults' = IfTold old (λ bytes. HasBadHeader bytes line reason) × TakesFront old new × (faults' ≡ faults)
+HasNoHeader (Malformed line reason) old faults new faults' =
+    IfTold old (λ bytes. HasBadHeader bytes line reason) × TakesFront old new × (faults' ≡ faults)
 HasNoHeader TooManyEvents old faults new faults' = ⊥
 HasNoHeader ReadFault old faults new faults' = TakesNoHeader old new × Rose faults faults'
 HasNoHeader NoMemory old faults new faults' = Keeps old new × (faults' ≡ faults)
@@ -32,19 +34,27 @@ with_event event (Ok (Some put)) = Ok (Some event)
 with_event event (Ok None) = Ok None
 with_event event (Err error) = Err error
 
--- What stands next in a trace of a version that has at most so many events, after a count of them, by the bytes that no line had
--- before and has after it, and those that the source has left then.
-abbrev pub StandsNextWithin : ℕ → ℕ → Result (Option Event) ReadErr → ℕ → Option (List ℕ) → Option (List ℕ) → Option (List ℕ) → Type 0
-StandsNextWithin most version (Ok (Some event)) count old new left = (count < most) × IsReadable version event × Consumes old new (line_text (event_text version event))
-StandsNextWithin most version (Ok None) count old new left = IsAtEnd old × LeavesNothing old new × LeavesNothing old left
-StandsNextWithin most version (Err (Malformed line reason)) count old new left = (count < most) × (line ≡ count + 3) × IfTold old (λ bytes. HasBadLine version bytes reason)
-StandsNextWithin most version (Err TooManyEvents) count old new left = (count ≡ most) × IfTold old (λ bytes. bytes ≢ [])
+-- What stands next in a trace of a version that has at most so many events, after a count of them,
+-- by the bytes that no line had before and has after it, and those that the source has left then.
+abbrev pub StandsNextWithin : ℕ → ℕ → Result (Option Event) ReadErr
+    → ℕ → Option (List ℕ) → Option (List ℕ) → Option (List ℕ) → Type 0
+StandsNextWithin most version (Ok (Some event)) count old new left =
+    (count < most) × IsReadable version event
+    × Consumes old new (line_text (event_text version event))
+StandsNextWithin most version (Ok None) count old new left =
+    IsAtEnd old × LeavesNothing old new × LeavesNothing old left
+StandsNextWithin most version (Err (Malformed line reason)) count old new left =
+    (count < most) × (line ≡ count + 3) × IfTold old (λ bytes. HasBadLine version bytes reason)
+StandsNextWithin most version (Err TooManyEvents) count old new left =
+    (count ≡ most) × IfTold old (λ bytes. bytes ≢ [])
 StandsNextWithin most version (Err ReadFault) count old new left = IsPending old left
 StandsNextWithin most version (Err NoMemory) count old new left = ⊥
 
 -- the same in a trace with the most events that it has
-abbrev pub StandsNext : ℕ → Result (Option Event) ReadErr → ℕ → Option (List ℕ) → Option (List ℕ) → Option (List ℕ) → Type 0
-StandsNext version answer count old new left = StandsNextWithin most_events version answer count old new left
+abbrev pub StandsNext : ℕ → Result (Option Event) ReadErr → ℕ
+    → Option (List ℕ) → Option (List ℕ) → Option (List ℕ) → Type 0
+StandsNext version answer count old new left =
+    StandsNextWithin most_events version answer count old new left
 
 -- The source's count of faults rose where the answer is that it failed, and else it is the same.
 abbrev pub HasFaultCause : Result (Option Event) ReadErr → ℕ → ℕ → Type 0

@@ -1,4 +1,5 @@
--- What the reader takes from the front of a line, field by field. Each field comes with the space before it.
+-- What the reader takes from the front of a line, field by field. Each field comes with the space
+-- before it.
 use Rattle.std.specs.Prelude.{ℕ, ◌+◌, ◌-◌, ◌*◌, ◌^◌, ◌==◌, ◌&&◌, Bool, nat_lt, nat_le, if◌then◌else◌, List, [], ◌∷◌, length, take, drop, codes, Option, Some, None}
 use Rattle.std.specs.Option.{option_and_then, option_map}
 use Rattle.std.specs.Str.{bytes_eq}
@@ -10,7 +11,8 @@ use Rattle.ace_event.specs.declared.event.Channel.TheVariants.{Read, Write}
 use Rattle.ace_event.specs.declared.event.Outcome.{Outcome}
 use Rattle.ace_event.specs.declared.event.Outcome.TheVariants.{Ok, Skip, Fail}
 
--- what takes a value from the front of the bytes, where one stands there, and leaves the bytes after it
+-- what takes a value from the front of the bytes, where one stands there, and leaves the bytes
+-- after it
 abbrev pub Taker : Type 0 → Type 0
 Taker A = List ℕ → Option (A × List ℕ)
 
@@ -24,7 +26,8 @@ digit_of byte =
 -- a number, once these digits are put behind it
 unfoldable pub digits_onto : ℕ → List ℕ → Option ℕ
 digits_onto number [] = Some number
-digits_onto number (byte ∷ bytes) = option_and_then (λ digit. digits_onto (number * 16 + digit) bytes) (digit_of byte)
+digits_onto number (byte ∷ bytes) =
+    option_and_then (λ digit. digits_onto (number * 16 + digit) bytes) (digit_of byte)
 
 -- the bytes after a space
 unfoldable pub space_at : List ℕ → Option (List ℕ)
@@ -36,7 +39,8 @@ unfoldable pub digits_at : ℕ → ℕ → Taker ℕ
 digits_at count most bytes =
     if nat_lt (length bytes) count
     then None
-    else option_and_then (λ number. if nat_le number most then Some (number, drop count bytes) else None) (digits_onto 0 (take count bytes))
+    else option_and_then (λ number. if nat_le number most then Some (number, drop count bytes)
+    else None) (digits_onto 0 (take count bytes))
 
 unfoldable pub number_at : ℕ → ℕ → Taker ℕ
 number_at count most bytes = option_and_then (digits_at count most) (space_at bytes)
@@ -93,7 +97,8 @@ whole take_first bytes = option_and_then (λ first. ended first.0 first.1) (take
 infixr 10 ◌▹◌
 abbrev pub ◌▹◌ : {A B : Type 0} → Taker A → (List ℕ → Option B) → List ℕ → Option (A × B)
 (take_first ▹ read_rest) bytes =
-    option_and_then (λ first. option_map (λ rest. (first.0, rest)) (read_rest first.1)) (take_first bytes)
+    option_and_then (λ first. option_map (λ rest. (first.0, rest)) (read_rest first.1))
+    (take_first bytes)
 
 -- the four words of a cache line
 abbrev pub LineWords : Type 0
@@ -106,4 +111,5 @@ line_of f = record { words = f.0 ∷ f.1.0 ∷ f.1.1.0 ∷ f.1.1.1 ∷ [] }
 unfoldable pub line_at : List ℕ → Option Line
 line_at bytes =
     option_map line_of
-    ((number_at 32 (2 ^ 128 - 1) ▹ digits_at 32 (2 ^ 128 - 1) ▹ digits_at 32 (2 ^ 128 - 1) ▹ whole (digits_at 32 (2 ^ 128 - 1))) bytes)
+    ((number_at 32 (2 ^ 128 - 1) ▹ digits_at 32 (2 ^ 128 - 1) ▹ digits_at 32 (2 ^ 128 - 1)
+    ▹ whole (digits_at 32 (2 ^ 128 - 1))) bytes)

@@ -11,6 +11,7 @@ BeginsWith bytes text = (rest : List ℕ) × (bytes ≡ text ++ rest)
 abbrev pub IsFirstLine : List ℕ → List ℕ → Type 0
 IsFirstLine line bytes = HasNoLf line × (length line < 256) × BeginsWith bytes (line_text line)
 
--- The bytes have no such line: they end before their first line feed, or the first 256 of them hold none.
+-- The bytes have no such line: they end before their first line feed, or the first 256 of them hold
+-- none.
 abbrev pub HasNoLine : List ℕ → Type 0
 HasNoLine bytes = (line : List ℕ) → ¬ IsFirstLine line bytes

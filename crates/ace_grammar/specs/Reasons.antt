@@ -24,7 +24,8 @@ number_of_reason F7 = 7
 abbrev pub least : Option Reason → Option Reason → Option Reason
 least None other = other
 least (Some one) None = Some one
-least (Some one) (Some other) = if nat_le (number_of_reason one) (number_of_reason other) then Some one else Some other
+least (Some one) (Some other) =
+    if nat_le (number_of_reason one) (number_of_reason other) then Some one else Some other
 
 -- whether the byte is a lower-case hexadecimal digit
 abbrev pub is_digit : ℕ → Bool
@@ -55,7 +56,8 @@ field_reason version Port field = digits_reason (port_digits version) field
 field_reason version (Digits count) field = digits_reason count field
 field_reason version (AtMost most) field = limited_reason 1 most field
 field_reason version SnoopResponse field = limited_reason 2 0x1f field
-field_reason version ChannelWord field = word_reason (bytes_eq field (codes "R") || bytes_eq field (codes "W"))
+field_reason version ChannelWord field =
+    word_reason (bytes_eq field (codes "R") || bytes_eq field (codes "W"))
 field_reason version StateWord field = word_reason (is_some (state_of field))
 field_reason version OutcomeWord field = word_reason (is_some (outcome_of field))
 
@@ -64,14 +66,16 @@ unfoldable pub fields_reason : ℕ → List Shape → List (List ℕ) → Option
 fields_reason version [] [] = None
 fields_reason version [] (field ∷ fields) = Some F3
 fields_reason version (shape ∷ shapes) [] = Some F3
-fields_reason version (shape ∷ shapes) (field ∷ fields) = least (field_reason version shape field) (fields_reason version shapes fields)
+fields_reason version (shape ∷ shapes) (field ∷ fields) =
+    least (field_reason version shape field) (fields_reason version shapes fields)
 
 -- the same, with the shapes of a record word, where there is one
 abbrev pub record_reason : ℕ → Option (List Shape) → List (List ℕ) → Option Reason
 record_reason version None fields = Some F2
 record_reason version (Some shapes) fields = fields_reason version shapes fields
 
--- the least reason of a line with these fields, the first of which has to be a record word of the version
+-- the least reason of a line with these fields, the first of which has to be a record word of the
+-- version
 abbrev pub line_reason : ℕ → List (List ℕ) → Option Reason
 line_reason version [] = Some F2
 line_reason version (word ∷ fields) = record_reason version (shapes_of version word) fields
@@ -84,4 +88,5 @@ pub record AreFields (line : List ℕ) (fields : List (List ℕ)) : Type 0 where
 
 -- A line, without its line feed, has this reason in a trace of a version.
 abbrev pub HasReason : ℕ → List ℕ → Reason → Type 0
-HasReason version line reason = (fields : List (List ℕ)) × AreFields line fields × (line_reason version fields ≡ Some reason)
+HasReason version line reason =
+    (fields : List (List ℕ)) × AreFields line fields × (line_reason version fields ≡ Some reason)

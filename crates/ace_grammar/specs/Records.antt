@@ -13,7 +13,9 @@ abbrev pub ArFields : Type 0
 ArFields = ℕ × (ℕ × (ℕ × (ℕ × (ℕ × (ℕ × Bool)))))
 
 unfoldable pub ar_fields : ℕ → List ℕ → Option ArFields
-ar_fields version = port_at version ▹ number_at 1 15 ▹ number_at 8 0xffff_ffff ▹ number_at 1 15 ▹ number_at 1 3 ▹ number_at 1 3 ▹ whole flag_at
+ar_fields version =
+    port_at version ▹ number_at 1 15 ▹ number_at 8 0xffff_ffff ▹ number_at 1 15
+    ▹ number_at 1 3 ▹ number_at 1 3 ▹ whole flag_at
 
 abbrev pub ar_event : ArFields → Event
 ar_event f = Ar f.0 f.1.0 f.1.1.0 f.1.1.1.0 f.1.1.1.1.0 f.1.1.1.1.1.0 f.1.1.1.1.1.1
@@ -22,7 +24,8 @@ abbrev pub RFields : Type 0
 RFields = ℕ × (ℕ × (ℕ × (Bool × ℕ)))
 
 unfoldable pub r_fields : ℕ → List ℕ → Option RFields
-r_fields version = port_at version ▹ number_at 1 15 ▹ number_at 1 15 ▹ flag_at ▹ whole (number_at 32 (2 ^ 128 - 1))
+r_fields version =
+    port_at version ▹ number_at 1 15 ▹ number_at 1 15 ▹ flag_at ▹ whole (number_at 32 (2 ^ 128 - 1))
 
 abbrev pub r_event : RFields → Event
 r_event f = R f.0 f.1.0 f.1.1.0 f.1.1.1.0 f.1.1.1.1
@@ -40,7 +43,9 @@ abbrev pub AwFields : Type 0
 AwFields = ℕ × (ℕ × (ℕ × (ℕ × (ℕ × ℕ))))
 
 unfoldable pub aw_fields : ℕ → List ℕ → Option AwFields
-aw_fields version = port_at version ▹ number_at 1 15 ▹ number_at 8 0xffff_ffff ▹ number_at 1 7 ▹ number_at 1 3 ▹ whole (number_at 1 3)
+aw_fields version =
+    port_at version ▹ number_at 1 15 ▹ number_at 8 0xffff_ffff ▹ number_at 1 7
+    ▹ number_at 1 3 ▹ whole (number_at 1 3)
 
 abbrev pub aw_event : AwFields → Event
 aw_event f = Aw f.0 f.1.0 f.1.1.0 f.1.1.1.0 f.1.1.1.1.0 f.1.1.1.1.1
@@ -49,7 +54,8 @@ abbrev pub WFields : Type 0
 WFields = ℕ × (ℕ × (Bool × ℕ))
 
 unfoldable pub w_fields : ℕ → List ℕ → Option WFields
-w_fields version = port_at version ▹ number_at 4 0xffff ▹ flag_at ▹ whole (number_at 32 (2 ^ 128 - 1))
+w_fields version =
+    port_at version ▹ number_at 4 0xffff ▹ flag_at ▹ whole (number_at 32 (2 ^ 128 - 1))
 
 abbrev pub w_event : WFields → Event
 w_event f = W f.0 f.1.0 f.1.1.0 f.1.1.1
@@ -130,7 +136,9 @@ abbrev pub LFields : Type 0
 LFields = ℕ × (ℕ × (ℕ × (Bool × ℕ)))
 
 unfoldable pub l_fields : ℕ → List ℕ → Option LFields
-l_fields version = port_at version ▹ number_at 8 0xffff_ffff ▹ number_at 1 3 ▹ flag_at ▹ whole (number_at 32 (2 ^ 128 - 1))
+l_fields version =
+    port_at version ▹ number_at 8 0xffff_ffff ▹ number_at 1 3 ▹ flag_at
+    ▹ whole (number_at 32 (2 ^ 128 - 1))
 
 abbrev pub l_event : LFields → Event
 l_event f = L f.0 f.1.0 f.1.1.0 f.1.1.1.0 f.1.1.1.1
@@ -139,7 +147,9 @@ abbrev pub DFields : Type 0
 DFields = ℕ × (ℕ × (ℕ × (Bool × Line)))
 
 unfoldable pub d_fields : ℕ → List ℕ → Option DFields
-d_fields version = port_at version ▹ number_at 8 0xffff_ffff ▹ number_at 16 0xffff_ffff_ffff_ffff ▹ flag_at ▹ line_at
+d_fields version =
+    port_at version ▹ number_at 8 0xffff_ffff ▹ number_at 16 0xffff_ffff_ffff_ffff
+    ▹ flag_at ▹ line_at
 
 abbrev pub d_event : DFields → Event
 d_event f = D f.0 f.1.0 f.1.1.0 f.1.1.1.0 f.1.1.1.1
@@ -181,30 +191,35 @@ c_at version (letter ∷ bytes) =
 unfoldable pub e_at : ℕ → List ℕ → Option Event
 e_at version [] = None
 e_at version (letter ∷ bytes) =
-    if version == 1 then None else (if letter == 77 then option_map mem_event (mem_fields bytes) else None)
+    if version == 1 then None else (if letter == 77 then option_map mem_event (mem_fields bytes)
+    else None)
 
 -- with M
 unfoldable pub m_at : ℕ → List ℕ → Option Event
 m_at version [] = option_map m_event (m_fields version [])
 m_at version (letter ∷ bytes) =
-    if letter == 69 then e_at version bytes else option_map m_event (m_fields version (letter ∷ bytes))
+    if letter == 69 then e_at version bytes
+    else option_map m_event (m_fields version (letter ∷ bytes))
 
 -- with O
 unfoldable pub o_at : ℕ → List ℕ → Option Event
 o_at version [] = None
-o_at version (letter ∷ bytes) = if letter == 80 then option_map op_event (op_fields version bytes) else None
+o_at version (letter ∷ bytes) =
+    if letter == 80 then option_map op_event (op_fields version bytes) else None
 
 -- with R
 unfoldable pub r_at : ℕ → List ℕ → Option Event
 r_at version [] = option_map r_event (r_fields version [])
 r_at version (letter ∷ bytes) =
-    if letter == 75 then option_map rk_event (rk_fields version bytes) else option_map r_event (r_fields version (letter ∷ bytes))
+    if letter == 75 then option_map rk_event (rk_fields version bytes)
+    else option_map r_event (r_fields version (letter ∷ bytes))
 
 -- with W
 unfoldable pub w_at : ℕ → List ℕ → Option Event
 w_at version [] = option_map w_event (w_fields version [])
 w_at version (letter ∷ bytes) =
-    if letter == 75 then option_map wk_event (wk_fields version bytes) else option_map w_event (w_fields version (letter ∷ bytes))
+    if letter == 75 then option_map wk_event (wk_fields version bytes)
+    else option_map w_event (w_fields version (letter ∷ bytes))
 
 -- all records of a version
 unfoldable pub event_at : ℕ → List ℕ → Option Event

@@ -1,11 +1,13 @@
--- The records of a trace: each has a word and the shapes of its fields. The shape of a port is the version's.
+-- The records of a trace: each has a word and the shapes of its fields. The shape of a port is the
+-- version's.
 use Rattle.std.specs.Prelude.{ℕ, ◌==◌, if◌then◌else◌, List, [], ◌∷◌, codes, Option}
 use Rattle.std.specs.Str.{bytes_eq}
 use Rattle.std.specs.Map.{lookup}
 use Rattle.ace_grammar.specs.declared.shapes.Shape.{Shape}
 use Rattle.ace_grammar.specs.declared.shapes.Shape.TheVariants.{Port, Digits, AtMost, SnoopResponse, ChannelWord, StateWord, OutcomeWord}
 
--- each record word of version 1 with the shapes of the fields behind it: those of what a port does on its own
+-- each record word of version 1 with the shapes of the fields behind it: those of what a port does
+-- on its own
 abbrev pub own_records : List (List ℕ × List Shape)
 own_records =
     (codes "S", Port ∷ Digits 8 ∷ StateWord ∷ [])
@@ -47,4 +49,5 @@ mem_record = (codes "MEM", Digits 8 ∷ Digits 128 ∷ [])
 
 -- the shapes of the fields behind a word, where it is a record word of the version
 abbrev pub shapes_of : ℕ → List ℕ → Option (List Shape)
-shapes_of version word = lookup (bytes_eq word) (if version == 1 then records else mem_record ∷ records)
+shapes_of version word =
+    lookup (bytes_eq word) (if version == 1 then records else mem_record ∷ records)

@@ -147,10 +147,12 @@ pub const NO_EVENT: Event = Event::Rk {
     st: LineState::I,
 };
 
-/// Reads the event whose line this is in a trace of a version, without its line feed, into its place. Where it is the line of no
-/// event in range, the place stays, and the error is the least reason of `F2` to `F6` that applies.
+/// Reads the event whose line this is in a trace of a version, without its line feed, into its
+/// place. Where it is the line of no event in range, the place stays, and the error is the least
+/// reason of `F2` to `F6` that applies.
 pub fn read_into(line: &[u8], version: u8, event: &mut Event) -> Result<(), Reason>
-    ensures event { OnOk result (IsReadable version event.new × (event_text version event.new ≡ line.now)) }
+    ensures event { OnOk result (IsReadable version event.new
+        × (event_text version event.new ≡ line.now)) }
     ensures reason { IfErr result (HasReason version line.now) }
     ensures stays { OnErr result (event.new ≡ event.old) }
 {
@@ -160,10 +162,11 @@ pub fn read_into(line: &[u8], version: u8, event: &mut Event) -> Result<(), Reas
     }
 }
 
-/// The event whose line this is in a trace of a version, without its line feed. Where it is the line of no event in range,
-/// the error is the least reason of `F2` to `F6` that applies.
+/// The event whose line this is in a trace of a version, without its line feed. Where it is the
+/// line of no event in range, the error is the least reason of `F2` to `F6` that applies.
 pub fn parse_event(line: &[u8], version: u8) -> Result<Event, Reason>
-    ensures event { IfOk result (λ event. IsReadable version event × (event_text version event ≡ line.now)) }
+    ensures event { IfOk result (λ event. IsReadable version event
+        × (event_text version event ≡ line.now)) }
     ensures reason { IfErr result (HasReason version line.now) }
 {
     let mut event = NO_EVENT;

@@ -11,7 +11,8 @@ use ace_event::Header;
 
 /// The version of which this is the first header line, without its line feed.
 pub fn parse_version(line: &[u8]) -> Option<u8>
-    ensures { MatchOption result (¬ IsVersionLine line.now) (λ version. IsVersion version × (version_text version ≡ line.now)) }
+    ensures { MatchOption result (¬ IsVersionLine line.now)
+        (λ version. IsVersion version × (version_text version ≡ line.now)) }
 {
     if line == b"ACE 1".as_slice() {
         Some(1)
@@ -63,8 +64,10 @@ fn ace_bits(letters: &[u8]) -> u32
 /// The header of the version with these port letters.
 fn parse_letters(letters: &[u8], version: u8) -> Option<Header>
     requires { IsVersion version }
-    ensures { MatchOption result ((header : Header) → IsReadableHeader header → header.version ≡ version → port_letters header ≢ letters.now)
-        (λ header. IsReadableHeader header × (header.version ≡ version) × (port_letters header ≡ letters.now)) }
+    ensures { MatchOption result ((header : Header) → IsReadableHeader header
+        → header.version ≡ version → port_letters header ≢ letters.now)
+        (λ header. IsReadableHeader header × (header.version ≡ version)
+        × (port_letters header ≡ letters.now)) }
 {
     if !are_letters(letters, most_letters(version)) {
         return None;
@@ -76,11 +79,14 @@ fn parse_letters(letters: &[u8], version: u8) -> Option<Header>
     })
 }
 
-/// The header of the version whose second line this is, without its line feed. None where it is that of no readable header.
+/// The header of the version whose second line this is, without its line feed. None where it is
+/// that of no readable header.
 pub fn parse_ports(line: &[u8], version: u8) -> Option<Header>
     requires { IsVersion version }
-    ensures { MatchOption result ((header : Header) → IsReadableHeader header → header.version ≡ version → ports_text header ≢ line.now)
-        (λ header. IsReadableHeader header × (header.version ≡ version) × (ports_text header ≡ line.now)) }
+    ensures { MatchOption result ((header : Header) → IsReadableHeader header
+        → header.version ≡ version → ports_text header ≢ line.now)
+        (λ header. IsReadableHeader header × (header.version ≡ version)
+        × (ports_text header ≡ line.now)) }
 {
     let letters = line.strip_prefix(b"PORTS ".as_slice())?;
     parse_letters(letters, version)

@@ -84,14 +84,16 @@ fn field_reason(shape: Shape, field: &[u8], version: u8) -> Option<Reason>
 /// Where the first space is.
 fn find_space(bytes: &[u8]) -> Option<usize>
     ensures { MatchOption result (All (λ byte. byte ≢ 32) bytes.now)
-        (λ at. (at < length bytes.now) × All (λ byte. byte ≢ 32) (take at bytes.now) × (slice_index bytes.now at ≡ 32)) }
+        (λ at. (at < length bytes.now) × All (λ byte. byte ≢ 32) (take at bytes.now)
+        × (slice_index bytes.now at ≡ 32)) }
 {
     bytes.iter().position(|byte| *byte == b' ')
 }
 
 /// The first field of what is left of a line, and what is behind its space, if it has one.
 pub fn cut_field(bytes: &[u8]) -> (&[u8], Option<&[u8]>)
-    ensures { slice_split (λ byte. byte == 32) bytes.now ≡ result.0.now ∷ parts (option_map (λ rest. rest.now) result.1) }
+    ensures { slice_split (λ byte. byte == 32) bytes.now ≡ result.0.now
+        ∷ parts (option_map (λ rest. rest.now) result.1) }
 {
     match find_space(bytes) {
         Some(at) => (&bytes[..at], Some(&bytes[at + 1..])),
@@ -102,7 +104,8 @@ pub fn cut_field(bytes: &[u8]) -> (&[u8], Option<&[u8]>)
 /// The reason of the rest of a line, where it has no more fields, in a trace of any version.
 #[tactic(auto, unfolding(crate::specs::Reasons::fields_reason))]
 fn end_reason(rest: Option<&[u8]>) -> Option<Reason>
-    ensures { (version : ℕ) → result ≡ fields_reason version [] (parts (option_map (λ bytes. bytes.now) rest.entry)) }
+    ensures { (version : ℕ) → result ≡ fields_reason version [] (parts
+        (option_map (λ bytes. bytes.now) rest.entry)) }
 {
     match rest {
         None => None,
@@ -113,7 +116,8 @@ fn end_reason(rest: Option<&[u8]>) -> Option<Reason>
 /// The reason of the rest of a line, by the shapes of the fields that are left.
 #[tactic(auto, unfolding(crate::specs::Reasons::fields_reason))]
 fn fields_reason(shapes: &[Shape], rest: Option<&[u8]>, version: u8) -> Option<Reason>
-    ensures { result ≡ fields_reason version shapes.now (parts (option_map (λ bytes. bytes.now) rest.entry)) }
+    ensures { result ≡ fields_reason version shapes.now
+        (parts (option_map (λ bytes. bytes.now) rest.entry)) }
 {
     match shapes {
         [] => end_reason(rest),

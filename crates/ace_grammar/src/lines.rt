@@ -20,7 +20,8 @@ use ace_io::{Failed, LineBuf, LineEnd, LineReader, Source};
 /// The most events of a trace, where nothing else is said.
 pub const MOST_EVENTS: u64 = 1_048_576;
 
-/// The most events that a reader counts, 2^64 - 3, as a line has a number below 2^64: no limit for what a program can count.
+/// The most events that a reader counts, 2^64 - 3, as a line has a number below 2^64: no limit for
+/// what a program can count.
 pub const MOST_COUNTED: u64 = 0xffff_ffff_ffff_fffd;
 
 /// Takes the next line with its line feed, and says whether there is one.
@@ -29,12 +30,18 @@ pub fn take_line<S: Source>(lines: &mut LineReader<S>, line: &mut LineBuf) -> Re
     ensures same_source { (source_of lines.new).ghost_name ≡ (source_of lines.old).ghost_name }
     ensures no_lf { HasNoLf line.new }
     ensures taken { IfOk result (λ whole. IsTrue whole →
-        (length line.new < 256) × Consumes (waiting S.left lines.old) (waiting S.left lines.new) (line_text line.new)) }
-    ensures none { IfOk result (λ whole. whole ≡ false → IfTold (waiting S.left lines.old) HasNoLine) }
-    ensures front { OnOk result (TakesFront (waiting S.left lines.old) (S.left (source_of lines.new).now)) }
-    ensures steady { OnOk result (S.faults (source_of lines.new).now ≡ S.faults (source_of lines.old).now) }
-    ensures fault { OnErr result (Rose (S.faults (source_of lines.old).now) (S.faults (source_of lines.new).now)) }
-    ensures pending { OnErr result (IsPending (waiting S.left lines.old) (S.left (source_of lines.new).now)) }
+        (length line.new < 256) × Consumes (waiting S.left lines.old)
+        (waiting S.left lines.new) (line_text line.new)) }
+    ensures none { IfOk result (λ whole. whole ≡ false
+        → IfTold (waiting S.left lines.old) HasNoLine) }
+    ensures front { OnOk result (TakesFront (waiting S.left lines.old)
+        (S.left (source_of lines.new).now)) }
+    ensures steady { OnOk result (S.faults (source_of lines.new).now
+        ≡ S.faults (source_of lines.old).now) }
+    ensures fault { OnErr result (Rose (S.faults (source_of lines.old).now)
+        (S.faults (source_of lines.new).now)) }
+    ensures pending { OnErr result (IsPending (waiting S.left lines.old)
+        (S.left (source_of lines.new).now)) }
 {
     match lines.next(line) {
         Ok(LineEnd::Whole) => Ok(true),
@@ -51,9 +58,12 @@ pub fn read_header<S: Source>(
 ) -> Result<Header, ReadErr>
     ensures same_source { (source_of lines.new).ghost_name ≡ (source_of lines.old).ghost_name }
     ensures readable { IfOk result (λ header. IsReadableHeader header) }
-    ensures header { IfOk result (λ header. Consumes (waiting S.left lines.old) (waiting S.left lines.new) (header_text header)) }
-    ensures steady { OnOk result (S.faults (source_of lines.new).now ≡ S.faults (source_of lines.old).now) }
-    ensures none { IfErr result (λ error. HasNoHeader error (waiting S.left lines.old) (S.faults (source_of lines.old).now)
+    ensures header { IfOk result (λ header. Consumes (waiting S.left lines.old)
+        (waiting S.left lines.new) (header_text header)) }
+    ensures steady { OnOk result (S.faults (source_of lines.new).now
+        ≡ S.faults (source_of lines.old).now) }
+    ensures none { IfErr result (λ error. HasNoHeader error (waiting S.left lines.old)
+        (S.faults (source_of lines.old).now)
         (S.left (source_of lines.new).now) (S.faults (source_of lines.new).now)) }
 {
     match take_line(lines, line) {
@@ -94,9 +104,14 @@ pub fn read_header<S: Source>(
 #[inline(never)]
 fn read_end<S: Source>(lines: &mut LineReader<S>, line: &mut LineBuf, stage: &mut Stage)
     ensures same_source { (source_of lines.new).ghost_name ≡ (source_of lines.old).ghost_name }
-    ensures next { (most version : ℕ) (event : Event) → StandsNextWithin most version (given false event (answer_at stage.new)) most (waiting S.left lines.old) (waiting S.left lines.new) (S.left (source_of lines.new).now) }
-    ensures last { (event : Event) → answer_at stage.new ≡ lasting (given false event (answer_at stage.new)) }
-    ensures cause { (event : Event) → HasFaultCause (given false event (answer_at stage.new)) (S.faults (source_of lines.old).now) (S.faults (source_of lines.new).now) }
+    ensures next { (most version : ℕ) (event : Event)
+        → StandsNextWithin most version (given false event (answer_at stage.new)) most
+        (waiting S.left lines.old) (waiting S.left lines.new)
+        (S.left (source_of lines.new).now) }
+    ensures last { (event : Event) → answer_at stage.new
+        ≡ lasting (given false event (answer_at stage.new)) }
+    ensures cause { (event : Event) → HasFaultCause (given false event (answer_at stage.new))
+        (S.faults (source_of lines.old).now) (S.faults (source_of lines.new).now) }
 {
     *stage = match lines.next(line) {
         Ok(LineEnd::End) => Stage::Ended,
@@ -105,8 +120,9 @@ fn read_end<S: Source>(lines: &mut LineReader<S>, line: &mut LineBuf, stage: &mu
     };
 }
 
-/// Reads the next event of a trace of a version and of at most so many events, after a count of them, into its place, and says whether
-/// there was one. Where there was none, the place stays, and the stage tells why: then read no more. `line` is room for a line.
+/// Reads the next event of a trace of a version and of at most so many events, after a count of
+/// them, into its place, and says whether there was one. Where there was none, the place stays, and
+/// the stage tells why: then read no more. `line` is room for a line.
 #[tactic(auto, using(crate::proofs::Readings::Taken::cut_end))]
 #[inline(always)]
 pub fn read_event<S: Source>(
@@ -122,10 +138,13 @@ pub fn read_event<S: Source>(
     requires few { count ≤ most }
     requires reads_on { answer_at stage.old ≡ None }
     ensures same_source { (source_of lines.new).ghost_name ≡ (source_of lines.old).ghost_name }
-    ensures next { StandsNextWithin most version (given result event.new (answer_at stage.new)) count (waiting S.left lines.old) (waiting S.left lines.new) (S.left (source_of lines.new).now) }
+    ensures next { StandsNextWithin most version (given result event.new (answer_at stage.new))
+        count (waiting S.left lines.old) (waiting S.left lines.new)
+        (S.left (source_of lines.new).now) }
     ensures last { answer_at stage.new ≡ lasting (given result event.new (answer_at stage.new)) }
     ensures stays { result ≡ false → event.new ≡ event.old }
-    ensures cause { HasFaultCause (given result event.new (answer_at stage.new)) (S.faults (source_of lines.old).now) (S.faults (source_of lines.new).now) }
+    ensures cause { HasFaultCause (given result event.new (answer_at stage.new))
+        (S.faults (source_of lines.old).now) (S.faults (source_of lines.new).now) }
 {
     if count == most {
         read_end(lines, line, stage);

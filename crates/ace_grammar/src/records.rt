@@ -1,5 +1,5 @@
-// Each record, from the fields behind its record word. The event is put in a place of its own, which stays as it was where the
-// fields are none.
+// Each record, from the fields behind its record word. The event is put in a place of its own,
+// which stays as it was where the fields are none.
 ghost use Rattle.std.specs.Prelude.{◌≡◌, None};
 ghost use Rattle.std.specs.Option.{option_map};
 ghost use Rattle.ace_grammar.specs.Fields.{ended};
@@ -29,7 +29,8 @@ fn put_at_end(read: Event, bytes: &[u8], event: &mut Event) -> Option<()>
 #[tactic(auto, unfolding(crate::specs::Records::ar_fields))]
 #[inline(always)]
 pub fn read_ar(bytes: &[u8], version: u8, event: &mut Event) -> Option<()>
-    ensures event { option_map (λ _. event.new) result ≡ option_map ar_event (ar_fields version bytes.now) }
+    ensures event { option_map (λ _. event.new) result
+        ≡ option_map ar_event (ar_fields version bytes.now) }
     ensures stays { result ≡ None → event.new ≡ event.old }
 {
     let (port, rest) = take_port(bytes, version)?;
@@ -55,7 +56,8 @@ pub fn read_ar(bytes: &[u8], version: u8, event: &mut Event) -> Option<()>
 #[tactic(auto, unfolding(crate::specs::Records::r_fields))]
 #[inline(always)]
 pub fn read_r(bytes: &[u8], version: u8, event: &mut Event) -> Option<()>
-    ensures event { option_map (λ _. event.new) result ≡ option_map r_event (r_fields version bytes.now) }
+    ensures event { option_map (λ _. event.new) result
+        ≡ option_map r_event (r_fields version bytes.now) }
     ensures stays { result ≡ None → event.new ≡ event.old }
 {
     let (port, rest) = take_port(bytes, version)?;
@@ -77,7 +79,8 @@ pub fn read_r(bytes: &[u8], version: u8, event: &mut Event) -> Option<()>
 #[tactic(auto, unfolding(crate::specs::Records::rk_fields))]
 #[inline(always)]
 pub fn read_rk(bytes: &[u8], version: u8, event: &mut Event) -> Option<()>
-    ensures event { option_map (λ _. event.new) result ≡ option_map rk_event (rk_fields version bytes.now) }
+    ensures event { option_map (λ _. event.new) result
+        ≡ option_map rk_event (rk_fields version bytes.now) }
     ensures stays { result ≡ None → event.new ≡ event.old }
 {
     let (port, rest) = take_port(bytes, version)?;
@@ -90,7 +93,8 @@ pub fn read_rk(bytes: &[u8], version: u8, event: &mut Event) -> Option<()>
 #[tactic(auto, unfolding(crate::specs::Records::aw_fields))]
 #[inline(always)]
 pub fn read_aw(bytes: &[u8], version: u8, event: &mut Event) -> Option<()>
-    ensures event { option_map (λ _. event.new) result ≡ option_map aw_event (aw_fields version bytes.now) }
+    ensures event { option_map (λ _. event.new) result
+        ≡ option_map aw_event (aw_fields version bytes.now) }
     ensures stays { result ≡ None → event.new ≡ event.old }
 {
     let (port, rest) = take_port(bytes, version)?;
@@ -114,7 +118,8 @@ pub fn read_aw(bytes: &[u8], version: u8, event: &mut Event) -> Option<()>
 #[tactic(auto, unfolding(crate::specs::Records::w_fields))]
 #[inline(always)]
 pub fn read_w(bytes: &[u8], version: u8, event: &mut Event) -> Option<()>
-    ensures event { option_map (λ _. event.new) result ≡ option_map w_event (w_fields version bytes.now) }
+    ensures event { option_map (λ _. event.new) result
+        ≡ option_map w_event (w_fields version bytes.now) }
     ensures stays { result ≡ None → event.new ≡ event.old }
 {
     let (port, rest) = take_port(bytes, version)?;
@@ -134,7 +139,8 @@ pub fn read_w(bytes: &[u8], version: u8, event: &mut Event) -> Option<()>
 #[tactic(auto, unfolding(crate::specs::Records::b_fields))]
 #[inline(always)]
 pub fn read_b(bytes: &[u8], version: u8, event: &mut Event) -> Option<()>
-    ensures event { option_map (λ _. event.new) result ≡ option_map b_event (b_fields version bytes.now) }
+    ensures event { option_map (λ _. event.new) result
+        ≡ option_map b_event (b_fields version bytes.now) }
     ensures stays { result ≡ None → event.new ≡ event.old }
 {
     let (port, rest) = take_port(bytes, version)?;
@@ -152,7 +158,8 @@ pub fn read_b(bytes: &[u8], version: u8, event: &mut Event) -> Option<()>
 #[tactic(auto, unfolding(crate::specs::Records::wk_fields))]
 #[inline(always)]
 pub fn read_wk(bytes: &[u8], version: u8, event: &mut Event) -> Option<()>
-    ensures event { option_map (λ _. event.new) result ≡ option_map wk_event (wk_fields version bytes.now) }
+    ensures event { option_map (λ _. event.new) result
+        ≡ option_map wk_event (wk_fields version bytes.now) }
     ensures stays { result ≡ None → event.new ≡ event.old }
 {
     let (port, rest) = take_port(bytes, version)?;
@@ -165,7 +172,8 @@ pub fn read_wk(bytes: &[u8], version: u8, event: &mut Event) -> Option<()>
 #[tactic(auto, unfolding(crate::specs::Records::ac_fields))]
 #[inline(always)]
 pub fn read_ac(bytes: &[u8], version: u8, event: &mut Event) -> Option<()>
-    ensures event { option_map (λ _. event.new) result ≡ option_map ac_event (ac_fields version bytes.now) }
+    ensures event { option_map (λ _. event.new) result
+        ≡ option_map ac_event (ac_fields version bytes.now) }
     ensures stays { result ≡ None → event.new ≡ event.old }
 {
     let (port, rest) = take_port(bytes, version)?;
@@ -183,7 +191,8 @@ pub fn read_ac(bytes: &[u8], version: u8, event: &mut Event) -> Option<()>
 #[tactic(auto, unfolding(crate::specs::Records::cr_fields))]
 #[inline(always)]
 pub fn read_cr(bytes: &[u8], version: u8, event: &mut Event) -> Option<()>
-    ensures event { option_map (λ _. event.new) result ≡ option_map cr_event (cr_fields version bytes.now) }
+    ensures event { option_map (λ _. event.new) result
+        ≡ option_map cr_event (cr_fields version bytes.now) }
     ensures stays { result ≡ None → event.new ≡ event.old }
 {
     let (port, rest) = take_port(bytes, version)?;
@@ -201,7 +210,8 @@ pub fn read_cr(bytes: &[u8], version: u8, event: &mut Event) -> Option<()>
 #[tactic(auto, unfolding(crate::specs::Records::cd_fields))]
 #[inline(always)]
 pub fn read_cd(bytes: &[u8], version: u8, event: &mut Event) -> Option<()>
-    ensures event { option_map (λ _. event.new) result ≡ option_map cd_event (cd_fields version bytes.now) }
+    ensures event { option_map (λ _. event.new) result
+        ≡ option_map cd_event (cd_fields version bytes.now) }
     ensures stays { result ≡ None → event.new ≡ event.old }
 {
     let (port, rest) = take_port(bytes, version)?;
@@ -215,7 +225,8 @@ pub fn read_cd(bytes: &[u8], version: u8, event: &mut Event) -> Option<()>
 #[tactic(auto, unfolding(crate::specs::Records::g_fields))]
 #[inline(always)]
 pub fn read_g(bytes: &[u8], version: u8, event: &mut Event) -> Option<()>
-    ensures event { option_map (λ _. event.new) result ≡ option_map g_event (g_fields version bytes.now) }
+    ensures event { option_map (λ _. event.new) result
+        ≡ option_map g_event (g_fields version bytes.now) }
     ensures stays { result ≡ None → event.new ≡ event.old }
 {
     let (port, rest) = take_port(bytes, version)?;
@@ -233,7 +244,8 @@ pub fn read_g(bytes: &[u8], version: u8, event: &mut Event) -> Option<()>
 #[tactic(auto, unfolding(crate::specs::Records::m_fields))]
 #[inline(always)]
 pub fn read_m(bytes: &[u8], version: u8, event: &mut Event) -> Option<()>
-    ensures event { option_map (λ _. event.new) result ≡ option_map m_event (m_fields version bytes.now) }
+    ensures event { option_map (λ _. event.new) result
+        ≡ option_map m_event (m_fields version bytes.now) }
     ensures stays { result ≡ None → event.new ≡ event.old }
 {
     let (port, rest) = take_port(bytes, version)?;
@@ -253,7 +265,8 @@ pub fn read_m(bytes: &[u8], version: u8, event: &mut Event) -> Option<()>
 #[tactic(auto, unfolding(crate::specs::Records::s_fields))]
 #[inline(always)]
 pub fn read_s(bytes: &[u8], version: u8, event: &mut Event) -> Option<()>
-    ensures event { option_map (λ _. event.new) result ≡ option_map s_event (s_fields version bytes.now) }
+    ensures event { option_map (λ _. event.new) result
+        ≡ option_map s_event (s_fields version bytes.now) }
     ensures stays { result ≡ None → event.new ≡ event.old }
 {
     let (port, rest) = take_port(bytes, version)?;
@@ -271,7 +284,8 @@ pub fn read_s(bytes: &[u8], version: u8, event: &mut Event) -> Option<()>
 #[tactic(auto, unfolding(crate::specs::Records::l_fields))]
 #[inline(always)]
 pub fn read_l(bytes: &[u8], version: u8, event: &mut Event) -> Option<()>
-    ensures event { option_map (λ _. event.new) result ≡ option_map l_event (l_fields version bytes.now) }
+    ensures event { option_map (λ _. event.new) result
+        ≡ option_map l_event (l_fields version bytes.now) }
     ensures stays { result ≡ None → event.new ≡ event.old }
 {
     let (port, rest) = take_port(bytes, version)?;
@@ -293,7 +307,8 @@ pub fn read_l(bytes: &[u8], version: u8, event: &mut Event) -> Option<()>
 #[tactic(auto, unfolding(crate::specs::Records::d_fields))]
 #[inline(always)]
 pub fn read_d(bytes: &[u8], version: u8, event: &mut Event) -> Option<()>
-    ensures event { option_map (λ _. event.new) result ≡ option_map d_event (d_fields version bytes.now) }
+    ensures event { option_map (λ _. event.new) result
+        ≡ option_map d_event (d_fields version bytes.now) }
     ensures stays { result ≡ None → event.new ≡ event.old }
 {
     let (port, rest) = take_port(bytes, version)?;
@@ -315,7 +330,8 @@ pub fn read_d(bytes: &[u8], version: u8, event: &mut Event) -> Option<()>
 #[tactic(auto, unfolding(crate::specs::Records::op_fields))]
 #[inline(always)]
 pub fn read_op(bytes: &[u8], version: u8, event: &mut Event) -> Option<()>
-    ensures event { option_map (λ _. event.new) result ≡ option_map op_event (op_fields version bytes.now) }
+    ensures event { option_map (λ _. event.new) result
+        ≡ option_map op_event (op_fields version bytes.now) }
     ensures stays { result ≡ None → event.new ≡ event.old }
 {
     let (port, rest) = take_port(bytes, version)?;
@@ -332,7 +348,8 @@ pub fn read_op(bytes: &[u8], version: u8, event: &mut Event) -> Option<()>
 /// The record `MEM`.
 #[tactic(auto, unfolding(crate::specs::Records::mem_fields))]
 pub fn read_mem(bytes: &[u8], event: &mut Event) -> Option<()>
-    ensures event { option_map (λ _. event.new) result ≡ option_map mem_event (mem_fields bytes.now) }
+    ensures event { option_map (λ _. event.new) result
+        ≡ option_map mem_event (mem_fields bytes.now) }
     ensures stays { result ≡ None → event.new ≡ event.old }
 {
     let (addr, rest) = take_number(bytes, 8, 0xffff_ffff)?;

@@ -113,7 +113,8 @@ static OP: [Shape; 3] = [Shape::Port, Shape::Digits { count: 4 }, Shape::Outcome
 
 static MEM: [Shape; 2] = [Shape::Digits { count: 8 }, Shape::Digits { count: 128 }];
 
-/// The shapes of the fields behind this word, where it is that of a record of what a port does on its own.
+/// The shapes of the fields behind this word, where it is that of a record of what a port does on
+/// its own.
 fn own_shapes_of(word: &[u8]) -> Option<&'static [Shape]>
     ensures { option_map (λ shapes. shapes.now) result ≡ lookup (bytes_eq word.now) own_records }
 {

@@ -1,4 +1,5 @@
-// How far a reader has come. What ends a reading is set in functions of their own, since few events come to it.
+// How far a reader has come. What ends a reading is set in functions of their own, since few events
+// come to it.
 ghost use Rattle.std.specs.Prelude.{◌≡◌, ◌+◌, ◌<◌};
 ghost use Rattle.ace_grammar.specs.declared.error.ReadErr.TheVariants.{Malformed, ReadFault};
 ghost use Rattle.ace_grammar.specs.declared.stage.Stage.TheVariants.{Ended, Failed};

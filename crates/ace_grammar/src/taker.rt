@@ -4,8 +4,8 @@ ghost use Rattle.ace_event.specs.declared.event.Event.{Event};
 
 use ace_event::Event;
 
-/// What may take an event as soon as it is read, at a place in the program where its kind is known: what is done with it is compiled
-/// for its kind there.
+/// What may take an event as soon as it is read, at a place in the program where its kind is known:
+/// what is done with it is compiled for its kind there.
 pub trait Taker {
     /// What holds of the taker before, the event, and the taker then, where it has taken the event.
     ghost took: { Self → Event → Self → Type 0 };

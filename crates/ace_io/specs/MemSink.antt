@@ -2,8 +2,8 @@
 use Rattle.std.specs.Prelude.{ℕ, List, Bool, ◌==◌, ◌||◌, ◌-◌, length, min}
 use Rattle.std.specs.List.{list_any}
 
--- what it holds, the most bytes that it can hold, the numbers of the gives that fail, and how many gives and faults
--- there were so far: both counts stop at the last number of 64 bits
+-- what it holds, the most bytes that it can hold, the numbers of the gives that fail, and how many
+-- gives and faults there were so far: both counts stop at the last number of 64 bits
 pub record SinkInMemory : Type 0 where
   pub held : List ℕ
   pub room : ℕ

@@ -2,8 +2,8 @@
 use Rattle.std.specs.Prelude.{ℕ, List, Bool, All, ◌==◌, ◌<◌, ◌≤◌, ◌%◌, length, min, slice_index}
 use Rattle.std.specs.List.{list_any}
 
--- what it has left, the most bytes of each take in turn, the numbers of the takes that fail, and how many takes and
--- faults there were so far: both counts stop at the last number of 64 bits
+-- what it has left, the most bytes of each take in turn, the numbers of the takes that fail, and
+-- how many takes and faults there were so far: both counts stop at the last number of 64 bits
 pub record SourceInMemory : Type 0 where
   pub left : List ℕ
   pub pieces : List ℕ
@@ -17,7 +17,8 @@ fails_next s = list_any (λ listed. listed == s.takes) s.fails
 
 -- how many bytes the next take gives into so much room, where it doesn't fail
 abbrev pub next_count : SourceInMemory → ℕ → ℕ
-next_count s room = min (min (slice_index s.pieces (s.takes % length s.pieces)) room) (length s.left)
+next_count s room =
+    min (min (slice_index s.pieces (s.takes % length s.pieces)) room) (length s.left)
 
 -- so many of the bytes were given, and there are sizes of pieces, none of them 0
 pub record GivesPieces (bytes : List ℕ) (given : ℕ) (pieces : List ℕ) : Type 0 where

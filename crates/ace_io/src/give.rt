@@ -5,7 +5,8 @@ ghost use Rattle.ace_io.specs.Faults.{Rose};
 
 use crate::Sink;
 
-/// Gives the text, piece by piece, up to its end or to a fault, and says how many bytes of it were given.
+/// Gives the text, piece by piece, up to its end or to a fault, and says how many bytes of it were
+/// given.
 pub fn give_all<K: Sink>(sink: &mut K, text: &[u8]) -> usize
     ensures fits { result ≤ length text.now }
     ensures given { Appends (K.held sink.old) (K.held sink.new) (take result text.now) }

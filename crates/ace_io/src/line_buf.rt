@@ -68,7 +68,8 @@ impl LineBuf {
 pub enum LineEnd {
     /// With its line feed.
     Whole,
-    /// The input ended after at least one byte of the line, or its first 256 bytes hold no line feed.
+    /// The input ended after at least one byte of the line, or its first 256 bytes hold no line
+    /// feed.
     NoLf,
     /// No byte was left.
     End,

@@ -48,7 +48,8 @@ fn lf_among(piece: &[u8], at: usize) -> usize
 /// Where the first line feed of a short piece is.
 fn find_lf_short(piece: &[u8]) -> Option<usize>
     ensures { MatchOption result (HasNoLf piece.now)
-        (λ at. (at < length piece.now) × HasNoLf (take at piece.now) × (slice_index piece.now at ≡ 10)) }
+        (λ at. (at < length piece.now) × HasNoLf (take at piece.now)
+        × (slice_index piece.now at ≡ 10)) }
 {
     piece.iter().position(|b| *b == b'\n')
 }
@@ -60,7 +61,8 @@ fn find_lf_after(piece: &[u8], start: usize) -> Option<usize>
     requires within { start ≤ length piece.now }
     requires no_lf { HasNoLf (take start piece.now) }
     ensures { MatchOption result (HasNoLf piece.now)
-        (λ at. (at < length piece.now) × HasNoLf (take at piece.now) × (slice_index piece.now at ≡ 10)) }
+        (λ at. (at < length piece.now) × HasNoLf (take at piece.now)
+        × (slice_index piece.now at ≡ 10)) }
 {
     match find_lf_short(&piece[start..]) {
         Some(more) => Some(start + more),
@@ -73,7 +75,8 @@ fn find_lf_after(piece: &[u8], start: usize) -> Option<usize>
 #[tactic(auto, using(crate::proofs::LineFeeds::lf_free))]
 fn find_lf(piece: &[u8]) -> Option<usize>
     ensures { MatchOption result (HasNoLf piece.now)
-        (λ at. (at < length piece.now) × HasNoLf (take at piece.now) × (slice_index piece.now at ≡ 10)) }
+        (λ at. (at < length piece.now) × HasNoLf (take at piece.now)
+        × (slice_index piece.now at ≡ 10)) }
 {
     let mut at = 0;
     while piece.len() - at >= LANES {
@@ -101,10 +104,12 @@ pub struct LineReader<'a, S: Source> {
 impl<'a, S: Source> LineReader<'a, S> {
     ghost use Rattle.ace_io.specs.Reader.{source_of, waiting, held, passed, line_at};
 
-    /// A reader before the first byte that the source has left. Its buffer is a part of it, so there is always memory.
+    /// A reader before the first byte that the source has left. Its buffer is a part of it, so
+    /// there is always memory.
     pub fn start(_alloc: Global, source: &'a mut S) -> Result<LineReader<'a, S>, NoMemory>
         ensures always { IsOk result }
-        ensures same_source { IfOk result (λ r. (source_of r).ghost_name ≡ source.entry.ghost_name) }
+        ensures same_source { IfOk result (λ r. (source_of r).ghost_name
+            ≡ source.entry.ghost_name) }
         ensures waiting { IfOk result (λ r. waiting S.left r ≡ S.left source.entry.now) }
         ensures faults { IfOk result (λ r. S.faults (source_of r).now ≡ S.faults source.entry.now) }
     {
@@ -135,11 +140,14 @@ impl<'a, S: Source> LineReader<'a, S> {
     fn fill(&mut self) -> Result<bool, Failed>
         requires { self.old.start ≡ self.old.end }
         ensures same_source { self.new.source.ghost_name ≡ self.old.source.ghost_name }
-        ensures kept { OnOk result (Consumes (waiting S.left self.old) (waiting S.left self.new) []) }
+        ensures kept { OnOk result (Consumes (waiting S.left self.old)
+            (waiting S.left self.new) []) }
         ensures some { IfOk result (λ more. IsTrue more → self.new.start < self.new.end) }
         ensures end { IfOk result (λ more. more ≡ false → IsAtEnd (waiting S.left self.new)) }
-        ensures err { OnErr result (Consumes (waiting S.left self.old) (S.left self.new.source.now) []) }
-        ensures cause { HasCause (S.faults self.old.source.now) (S.faults self.new.source.now) result }
+        ensures err { OnErr result (Consumes (waiting S.left self.old)
+            (S.left self.new.source.now) []) }
+        ensures cause { HasCause (S.faults self.old.source.now)
+            (S.faults self.new.source.now) result }
     {
         match self.source.take(&mut self.buffer) {
             Ok(count) => {
@@ -154,7 +162,8 @@ impl<'a, S: Source> LineReader<'a, S> {
     /// The next line, without its line feed, where all of it is held.
     #[inline(always)]
     fn held_line(&self) -> Option<&[u8]>
-        ensures { MatchOption result (HasNoLf (take 256 (held self.now))) (λ line. IsHeldLine line.now (held self.now)) }
+        ensures { MatchOption result (HasNoLf (take 256 (held self.now)))
+            (λ line. IsHeldLine line.now (held self.now)) }
     {
         let held = &self.buffer[self.start..self.end];
         let most = LINE_LIMIT.min(held.len());
@@ -180,7 +189,8 @@ impl<'a, S: Source> LineReader<'a, S> {
         ensures source { self.new.source.now ≡ self.old.source.now }
         ensures buffer { self.new.buffer ≡ self.old.buffer }
         ensures start { self.new.start ≡ self.old.start + count }
-        ensures passed { Consumes (waiting S.left self.old) (waiting S.left self.new) (take count (held self.old)) }
+        ensures passed { Consumes (waiting S.left self.old) (waiting S.left self.new)
+            (take count (held self.old)) }
     {
         self.start += count;
     }
@@ -220,17 +230,21 @@ impl<'a, S: Source> LineReader<'a, S> {
         }
     }
 
-    /// Moves what is at hand into the line, after asking the source for more where nothing is. An answer ends the line.
+    /// Moves what is at hand into the line, after asking the source for more where nothing is. An
+    /// answer ends the line.
     #[inline(always)]
     fn advance(&mut self, into: &mut LineBuf) -> Result<Option<LineEnd>, Failed>
         requires short { length into.old < 256 }
         requires no_lf { HasNoLf into.old }
         ensures same_source { self.new.source.ghost_name ≡ self.old.source.ghost_name }
         ensures no_lf { HasNoLf into.new }
-        ensures moved { IfOk result (λ end. CutsPiece into.old (waiting S.left self.old) into.new end (waiting S.left self.new)) }
+        ensures moved { IfOk result (λ end. CutsPiece into.old
+            (waiting S.left self.old) into.new end (waiting S.left self.new)) }
         ensures line_stays { OnErr result (into.new ≡ into.old) }
-        ensures bytes_stay { OnErr result (Consumes (waiting S.left self.old) (S.left self.new.source.now) []) }
-        ensures cause { HasCause (S.faults self.old.source.now) (S.faults self.new.source.now) result }
+        ensures bytes_stay { OnErr result (Consumes (waiting S.left self.old)
+            (S.left self.new.source.now) []) }
+        ensures cause { HasCause (S.faults self.old.source.now)
+            (S.faults self.new.source.now) result }
     {
         if self.start == self.end && !self.fill()? {
             return Ok(Some(if into.len() == 0 {
@@ -242,19 +256,24 @@ impl<'a, S: Source> LineReader<'a, S> {
         Ok(self.cut(into))
     }
 
-    /// Puts the next line into the buffer, and says how it ends. After an `Err` nothing is promised of another call.
+    /// Puts the next line into the buffer, and says how it ends. After an `Err` nothing is promised
+    /// of another call.
     ///
     /// # Errors
     ///
-    /// `Failed` only where the source's count of faults rose in this call, or stood at its last value before. What
-    /// was taken from the source and not given in a line then holds no line feed and is fewer than 256 bytes.
+    /// `Failed` only where the source's count of faults rose in this call, or stood at its last
+    /// value before. What was taken from the source and not given in a line then holds no line feed
+    /// and is fewer than 256 bytes.
     #[inline(always)]
     pub fn next(&mut self, into: &mut LineBuf) -> Result<LineEnd, Failed>
         ensures same_source { (source_of self.new).ghost_name ≡ (source_of self.old).ghost_name }
         ensures no_lf { HasNoLf into.new }
-        ensures line { IfOk result (λ end. CutsLine (waiting S.left self.old) into.new end (waiting S.left self.new)) }
-        ensures pending { OnErr result (IsPending (waiting S.left self.old) (S.left (source_of self.new).now)) }
-        ensures cause { HasCause (S.faults (source_of self.old).now) (S.faults (source_of self.new).now) result }
+        ensures line { IfOk result (λ end. CutsLine (waiting S.left self.old) into.new end
+            (waiting S.left self.new)) }
+        ensures pending { OnErr result (IsPending (waiting S.left self.old)
+            (S.left (source_of self.new).now)) }
+        ensures cause { HasCause (S.faults (source_of self.old).now)
+            (S.faults (source_of self.new).now) result }
     {
         into.clear();
         'pieces: loop {
@@ -264,8 +283,9 @@ impl<'a, S: Source> LineReader<'a, S> {
         }
     }
 
-    /// Cuts the next line as `next` does, but one that is held whole isn't copied: it is lent by `line_at`. The number beside its end
-    /// is how many bytes it has with its line feed where it is lent, and 0 where it is copied.
+    /// Cuts the next line as `next` does, but one that is held whole isn't copied: it is lent by
+    /// `line_at`. The number beside its end is how many bytes it has with its line feed where it is
+    /// lent, and 0 where it is copied.
     ///
     /// # Errors
     ///
@@ -275,9 +295,12 @@ impl<'a, S: Source> LineReader<'a, S> {
         ensures same_source { (source_of self.new).ghost_name ≡ (source_of self.old).ghost_name }
         ensures behind { IfOk result (λ cut. cut.1 ≤ passed self.new) }
         ensures no_lf { IfOk result (λ cut. HasNoLf (line_at self.new cut.1 copy.new)) }
-        ensures line { IfOk result (λ cut. CutsLine (waiting S.left self.old) (line_at self.new cut.1 copy.new) cut.0 (waiting S.left self.new)) }
-        ensures pending { OnErr result (IsPending (waiting S.left self.old) (S.left (source_of self.new).now)) }
-        ensures cause { HasCause (S.faults (source_of self.old).now) (S.faults (source_of self.new).now) result }
+        ensures line { IfOk result (λ cut. CutsLine (waiting S.left self.old)
+            (line_at self.new cut.1 copy.new) cut.0 (waiting S.left self.new)) }
+        ensures pending { OnErr result (IsPending (waiting S.left self.old)
+            (S.left (source_of self.new).now)) }
+        ensures cause { HasCause (S.faults (source_of self.old).now)
+            (S.faults (source_of self.new).now) result }
     {
         if let Some(line) = self.held_line() {
             let lent = line.len() + 1;
@@ -290,7 +313,8 @@ impl<'a, S: Source> LineReader<'a, S> {
         }
     }
 
-    /// The line that `next_in_place` cut last, without its line feed, by the number that it answered and the copy that it made.
+    /// The line that `next_in_place` cut last, without its line feed, by the number that it
+    /// answered and the copy that it made.
     #[inline(always)]
     pub fn line_at<'b>(&'b self, lent: usize, copy: &'b LineBuf) -> &'b [u8]
         requires { lent ≤ passed self.now }

@@ -8,7 +8,8 @@ use crate::{Failed, NoMemory, Sink};
 use std::alloc::Global;
 use std::marker::Model;
 
-/// Keeps what it is given in room that it took once. The gives of a list fail, and so do those where the room is full.
+/// Keeps what it is given in room that it took once. The gives of a list fail, and so do those
+/// where the room is full.
 ///
 /// Gives are numbered from 0; from 18446744073709551615 on each counts as the give of that number.
 #[derive(Drop)]
@@ -38,8 +39,8 @@ impl Model for MemSink {
 }
 
 impl MemSink {
-    /// A sink that holds nothing, with room for so many bytes. The give of number k, from 0, fails where `fails`
-    /// names k.
+    /// A sink that holds nothing, with room for so many bytes. The give of number k, from 0, fails
+    /// where `fails` names k.
     ///
     /// # Errors
     ///
@@ -75,8 +76,8 @@ impl Sink for MemSink {
 
     ghost faults = { λ s. s.faults };
 
-    /// The front of the piece, as far as the room goes. The gives of the list fail, and so do all where the room is
-    /// full; the count of faults then rises by one, or stands at its last value.
+    /// The front of the piece, as far as the room goes. The gives of the list fail, and so do all
+    /// where the room is full; the count of faults then rises by one, or stands at its last value.
     fn give(&mut self, piece: &[u8]) -> Result<usize, Failed>
         ensures bytes { Gives (Some self.old.held) (Some self.new.held) result piece.now }
         ensures cause { HasCause self.old.faults self.new.faults result }

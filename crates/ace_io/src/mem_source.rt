@@ -39,8 +39,8 @@ impl Model for MemSource {
 }
 
 impl MemSource {
-    /// A source of a copy of these bytes. The take of number k, from 0, gives at most `pieces[k % pieces.len()]`
-    /// bytes, and fails where `fails` names k.
+    /// A source of a copy of these bytes. The take of number k, from 0, gives at most
+    /// `pieces[k % pieces.len()]` bytes, and fails where `fails` names k.
     ///
     /// # Errors
     ///
@@ -78,8 +78,8 @@ impl Source for MemSource {
 
     ghost faults = { λ s. s.faults };
 
-    /// The next piece, as far as it fits. The takes of the list fail, and the count of faults then rises by one, or
-    /// stands at its last value.
+    /// The next piece, as far as it fits. The takes of the list fail, and the count of faults then
+    /// rises by one, or stands at its last value.
     fn take(&mut self, into: &mut [u8]) -> Result<usize, Failed>
         requires { 0 < length into.old }
         ensures bytes { Takes (Some self.old.left) (Some self.new.left) result into.new }

@@ -1,4 +1,5 @@
-// The traits through which everything outside is reached, each with its meaning and its count of faults.
+// The traits through which everything outside is reached, each with its meaning and its count of
+// faults.
 ghost use Rattle.std.specs.Prelude.{◌<◌, List, Option, ℕ, length};
 ghost use Rattle.ace_io.specs.Faults.{HasCause, Takes, Gives};
 
@@ -22,13 +23,13 @@ pub trait Source {
     /// How often it has failed. The count never falls, and may stop at 18446744073709551615.
     ghost faults: { Self → ℕ };
 
-    /// Moves the first of the bytes that are left into the front of the slice, which isn't empty, and says how many.
-    /// None moved is the end of the bytes.
+    /// Moves the first of the bytes that are left into the front of the slice, which isn't empty,
+    /// and says how many. None moved is the end of the bytes.
     ///
     /// # Errors
     ///
-    /// `Failed` only where the count of faults rose in this call, or stood at its last value before. No byte was
-    /// taken then.
+    /// `Failed` only where the count of faults rose in this call, or stood at its last value
+    /// before. No byte was taken then.
     fn take(&mut self, into: &mut [u8]) -> Result<usize, Failed>
         requires { 0 < length into.old }
         ensures bytes { Takes (left self.old) (left self.new) result into.new }
@@ -43,12 +44,13 @@ pub trait Sink {
     /// How often it has failed. The count never falls, and may stop at 18446744073709551615.
     ghost faults: { Self → ℕ };
 
-    /// Appends the front of the piece, and says how many bytes: at least one of a piece that isn't empty.
+    /// Appends the front of the piece, and says how many bytes: at least one of a piece that isn't
+    /// empty.
     ///
     /// # Errors
     ///
-    /// `Failed` only where the count of faults rose in this call, or stood at its last value before. Nothing was
-    /// appended then.
+    /// `Failed` only where the count of faults rose in this call, or stood at its last value
+    /// before. Nothing was appended then.
     fn give(&mut self, piece: &[u8]) -> Result<usize, Failed>
         ensures bytes { Gives (held self.old) (held self.new) result piece.now }
         ensures cause { HasCause (faults self.old) (faults self.new) result };
@@ -56,8 +58,8 @@ pub trait Sink {
 
 /// What a worker passes before each of its turns.
 pub trait Gate {
-    /// Called without any lock, with the worker's port and the number of its turn. It returns nothing, and changes
-    /// nothing that a contract names.
+    /// Called without any lock, with the worker's port and the number of its turn. It returns
+    /// nothing, and changes nothing that a contract names.
     fn pass(&self, port: u8, turn: u32);
 }
 

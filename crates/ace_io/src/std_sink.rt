@@ -6,8 +6,9 @@ use crate::counts::count_on;
 use crate::{Failed, Sink};
 use std::io::Write;
 
-/// Hands bytes to a writer. It tells the bytes that the writer tells, as one over memory does and standard output
-/// doesn't. Each error of the writer is a fault, and so is a write of nothing of a piece that isn't empty.
+/// Hands bytes to a writer. It tells the bytes that the writer tells, as one over memory does and
+/// standard output doesn't. Each error of the writer is a fault, and so is a write of nothing of a
+/// piece that isn't empty.
 #[derive(Drop)]
 pub struct StdSink<W: Write> {
     inner: W,
@@ -33,9 +34,11 @@ impl<W: Write> Sink for StdSink<W> {
 
     ghost faults = { sink_faults };
 
-    /// What one write of the writer takes. At a fault the count rises by one, or stands at its last value.
+    /// What one write of the writer takes. At a fault the count rises by one, or stands at its last
+    /// value.
     fn give(&mut self, piece: &[u8]) -> Result<usize, Failed>
-        ensures bytes { Gives (W.contents (writer_of self.old)) (W.contents (writer_of self.new)) result piece.now }
+        ensures bytes { Gives (W.contents (writer_of self.old))
+            (W.contents (writer_of self.new)) result piece.now }
         ensures cause { HasCause (sink_faults self.old) (sink_faults self.new) result }
         ensures raised { OnErr result (sink_faults self.new ≡ raised (sink_faults self.old)) }
     {

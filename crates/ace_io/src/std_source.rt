@@ -6,8 +6,8 @@ use crate::counts::count_on;
 use crate::{Failed, Source};
 use std::io::Read;
 
-/// The bytes of a reader. It tells the bytes that the reader tells, as one over memory does and standard input doesn't.
-/// Each error of the reader is a fault.
+/// The bytes of a reader. It tells the bytes that the reader tells, as one over memory does and
+/// standard input doesn't. Each error of the reader is a fault.
 #[derive(Drop)]
 pub struct StdSource<R: Read> {
     inner: R,
@@ -33,10 +33,12 @@ impl<R: Read> Source for StdSource<R> {
 
     ghost faults = { source_faults };
 
-    /// What one read of the reader gives. At its error the count of faults rises by one, or stands at its last value.
+    /// What one read of the reader gives. At its error the count of faults rises by one, or stands
+    /// at its last value.
     fn take(&mut self, into: &mut [u8]) -> Result<usize, Failed>
         requires { 0 < length into.old }
-        ensures bytes { Takes (R.remaining (reader_of self.old)) (R.remaining (reader_of self.new)) result into.new }
+        ensures bytes { Takes (R.remaining (reader_of self.old))
+            (R.remaining (reader_of self.new)) result into.new }
         ensures cause { HasCause (source_faults self.old) (source_faults self.new) result }
         ensures raised { OnErr result (source_faults self.new ≡ raised (source_faults self.old)) }
     {

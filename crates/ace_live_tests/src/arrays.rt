@@ -134,8 +134,8 @@ fn all_agree(alloc: Global, setup: &Setup) -> Result<bool, Fail>
     Ok(agree && fine)
 }
 
-/// Whether ten runs of calls of all kinds agree, from this number on: 1 to 8 ports, caches of 1 to 5
-/// lines.
+/// Whether ten runs of calls of all kinds agree, from this number on: 1 to 8 ports, caches of 1 to
+/// 5 lines.
 fn runs_agree(alloc: Global, policy: PolicyWord, first: u32) -> Result<bool, Fail>
     requires { first ≤ 1000 }
 {

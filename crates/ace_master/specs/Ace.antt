@@ -9,7 +9,9 @@ use Rattle.ace_master.specs.declared.ace_port.AcePort.{AcePort}
 use Rattle.ace_master.specs.AcePort.{AcePortStands}
 use Rattle.ace_master.specs.Answering.{IsByWord}
 
--- What is kept of the port stands for the trace, and the policy, which may pick these rows, picks none but those that the word of the plan allows.
-pub record AceStands (at : AcePort) (rows : SnoopKind → LineState → Bool → List Row) (plan : Plan) (past : Trace) : Type 0 where
+-- What is kept of the port stands for the trace, and the policy, which may pick these rows, picks
+-- none but those that the word of the plan allows.
+pub record AceStands (at : AcePort) (rows : SnoopKind → LineState → Bool → List Row)
+    (plan : Plan) (past : Trace) : Type 0 where
   pub port : AcePortStands at plan past
   pub picks : IsByWord plan.policy rows

@@ -24,11 +24,13 @@ use Rattle.ace_master.specs.Ace.{AceStands}
 use Rattle.ace_master.specs.LiteLaws.{same-operations}
 use Rattle.ace_master.specs.Sending.{UnsentStands}
 
-pub legal : (at : AcePort) (rows : SnoopKind → LineState → Bool → List Row) (plan : Plan) (past : Trace) → AceStands at rows plan past → IsLegal plan past
+pub legal : (at : AcePort) (rows : SnoopKind → LineState → Bool → List Row)
+    (plan : Plan) (past : Trace) → AceStands at rows plan past → IsLegal plan past
 legal at rows plan past stands = stands.port.kept.legal
 
 module _ (plan : Plan) (o : PlanOp) (past : Trace) (p : ℕ) where
-  pub unsent-longer : (unsent : Option WriteData) → UnsentStands plan past p unsent → UnsentStands (longer plan o) past p unsent
+  pub unsent-longer : (unsent : Option WriteData) → UnsentStands plan past p unsent
+      → UnsentStands (longer plan o) past p unsent
   unsent-longer unsent u = record {
     whole = u.whole;
     last = u.last;
@@ -38,14 +40,16 @@ module _ (plan : Plan) (o : PlanOp) (past : Trace) (p : ℕ) where
           k.1,
           record {
             behind = k.2.behind;
-            is_behind = next-longer plan (o ∷ []) (at_point x.place past) x.port k.2.behind k.2.is_behind;
+            is_behind = next-longer plan (o ∷ []) (at_point x.place past)
+                x.port k.2.behind k.2.is_behind;
             kind = k.2.kind;
             carries = k.2.carries;
           },
         );
   }
 
-  pub under-way-longer : (op : Op) → IsUnderWay plan past p op → IsUnderWay (longer plan o) past p op
+  pub under-way-longer : (op : Op) → IsUnderWay plan past p op
+      → IsUnderWay (longer plan o) past p op
   under-way-longer op u = record {
     asked = u.asked;
     settled = u.settled;
@@ -59,17 +63,21 @@ module _ (plan : Plan) (o : PlanOp) (past : Trace) (p : ℕ) where
 
   module _ (other : (o.port == p) ≡ false) where
     same-next : next_operation (longer plan o) past p ≡ next_operation plan past p
-    same-next = ap (λ (os : List Op). slice_get os (retired past p)) (same-operations plan o p other)
+    same-next =
+        ap (λ (os : List Op). slice_get os (retired past p)) (same-operations plan o p other)
 
     orderly-longer : IsOrderly plan past p → IsOrderly (longer plan o) past p
     orderly-longer c = record {
-      unended = ap (λ (n : Option Op). is_some_and n (λ op. may_retire plan.header past p op Ok)) same-next ∙ c.unended;
-      brought = λ i x out brings. let b = c.brought i x out brings in (b.0, b.1, same-next ∙ b.2, b.3);
+      unended = ap (λ (n : Option Op). is_some_and n (λ op. may_retire plan.header past p op Ok))
+          same-next ∙ c.unended;
+      brought = λ i x out brings. let b = c.brought i x out brings in
+          (b.0, b.1, same-next ∙ b.2, b.3);
       under_way = λ op next. under-way-longer op (c.under_way op (sym same-next ∙ next));
     }
 
 -- what is kept of the port stands for the longer plan
-pub kept-longer : (plan : Plan) (o : PlanOp) (past : Trace) (p : ℕ) (s : Kept) → KeptStands plan past p s → IsRight (longer plan o) → KeptStands (longer plan o) past p s
+pub kept-longer : (plan : Plan) (o : PlanOp) (past : Trace) (p : ℕ) (s : Kept)
+    → KeptStands plan past p s → IsRight (longer plan o) → KeptStands (longer plan o) past p s
 kept-longer plan o past p s k right = record {
   legal = legal-longer plan past o k.legal right;
   ace = k.ace;
@@ -83,8 +91,10 @@ kept-longer plan o past p s k right = record {
   syncs = k.syncs;
 }
 
-pub grows : (at : AcePort) (rows : SnoopKind → LineState → Bool → List Row) (plan : Plan) (past : Trace) (o : PlanOp) → AceStands at rows plan past → IsRight (longer plan o)
-    → is_their_operation Master (λ p. p == at.port) o ≡ false → AceStands at rows (longer plan o) past
+pub grows : (at : AcePort) (rows : SnoopKind → LineState → Bool → List Row) (plan : Plan)
+    (past : Trace) (o : PlanOp) → AceStands at rows plan past → IsRight (longer plan o)
+    → is_their_operation Master (λ p. p == at.port) o ≡ false
+    → AceStands at rows (longer plan o) past
 grows at rows plan past o stands right other =
     let t = stands.port.tells in
     record {

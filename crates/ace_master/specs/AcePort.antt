@@ -16,9 +16,11 @@ use Rattle.ace_master.specs.Answering.{AreDataSent}
 use Rattle.ace_master.specs.Lite.{own_steps}
 use Rattle.ace_master.specs.Sending.{UnsentStands}
 
--- What it keeps beside what `Kept` is: the port's operations, and the data of the burst that isn't sent where they are an operation's. The port
--- takes steps alone: its next operation has come as far as they let it, and it has sent the data of its answers.
-pub record AceTells (plan : Plan) (past : Trace) (p : ℕ) (operations : List Op) (unsent : Option WriteData) : Type 0 where
+-- What it keeps beside what `Kept` is: the port's operations, and the data of the burst that isn't
+-- sent where they are an operation's. The port takes steps alone: its next operation has come as
+-- far as they let it, and it has sent the data of its answers.
+pub record AceTells (plan : Plan) (past : Trace) (p : ℕ) (operations : List Op)
+    (unsent : Option WriteData) : Type 0 where
   pub operations_are : operations ≡ operations_of plan p
   pub orderly : IsOrderly plan past p
   pub answered : AreDataSent past p

@@ -34,14 +34,17 @@ operation_of plan past p x = if is_in_segment past x then next_operation plan pa
 -- a MakeUnique was issued for a fill
 abbrev pub IsMadeFor : Transaction → Option Op → Type 0
 IsMadeFor x None = ⊤
-IsMadeFor x (Some op) = is_some_and (read_kind x) is_make_unique ≡ true → (a : ℕ) × (line : Line) × (op ≡ Fill a line)
+IsMadeFor x (Some op) =
+    is_some_and (read_kind x) is_make_unique ≡ true → (a : ℕ) × (line : Line) × (op ≡ Fill a line)
 
 abbrev pub lacked_for : Header → Trace → Transaction → Option Op → List Event
 lacked_for h past x None = []
 lacked_for h past x (Some op) = store_lacked h past x op
 
--- the acknowledge, with the store that a MakeUnique lacks before it where it was issued for an operation
-abbrev pub lacked_and_acknowledge : Header → Trace → Transaction → Option Op → LineState → List Event
+-- the acknowledge, with the store that a MakeUnique lacks before it where it was issued for an
+-- operation
+abbrev pub lacked_and_acknowledge : Header → Trace → Transaction
+    → Option Op → LineState → List Event
 lacked_and_acknowledge h past x next st = lacked_for h past x next ++ acknowledge x st
 
 -- what ends the operation, if there is one
@@ -49,7 +52,8 @@ abbrev pub closing_for : Header → Trace → ℕ → Option Op → List Event
 closing_for h past p None = []
 closing_for h past p (Some op) = closing_of h past p op
 
--- The operation, if there is one, has right fields, and the port was told so of its exclusive store.
+-- The operation, if there is one, has right fields, and the port was told so of its exclusive
+-- store.
 abbrev pub IsTold : Trace → ℕ → Option Op → Bool → Type 0
 IsTold past p None refused = ⊤
 IsTold past p (Some op) refused = (has_right_fields op ≡ true) × IsToldOf past p op refused
@@ -57,4 +61,5 @@ IsTold past p (Some op) refused = (has_right_fields op ≡ true) × IsToldOf pas
 -- the burst
 abbrev pub whole_acknowledge : Header → Trace → ℕ → Transaction → Option Op → LineState → List Event
 whole_acknowledge h past p x next st =
-    lacked_and_acknowledge h past x next st ++ closing_for h (onto (lacked_and_acknowledge h past x next st) past) p next
+    lacked_and_acknowledge h past x next st
+    ++ closing_for h (onto (lacked_and_acknowledge h past x next st) past) p next

@@ -31,7 +31,8 @@ use Rattle.ace_master_state.specs.Cached.{CachedStands}
 use Rattle.ace_master.specs.declared.answering.Asked.{Asked}
 use Rattle.ace_master.specs.KeptPort.{KeepsPort}
 
--- ---- what is kept ------------------------------------------------------------------------------------
+-- ---- what is kept
+-- ------------------------------------------------------------------------------------
 
 -- the port has sent the data of all its answers that announce some
 abbrev pub AreDataSent : Trace → ℕ → Type 0
@@ -51,23 +52,34 @@ pub record Stands (plan : Plan) (past : Trace) (port : OnePort) (cached : Cached
 
 -- the policy picks no row but those that the word of a plan allows
 abbrev pub IsByWord : PolicyWord → (SnoopKind → LineState → Bool → List Row) → Type 0
-IsByWord word rows = (k : SnoopKind) (st : LineState) (u : Bool) (r : Row) → Contains (rows k st u) r → is_picked word k st u r.resp r.next ≡ true
+IsByWord word rows =
+    (k : SnoopKind) (st : LineState) (u : Bool) (r : Row) → Contains (rows k st u) r
+    → is_picked word k st u r.resp r.next ≡ true
 
--- ---- the answer --------------------------------------------------------------------------------------
+-- ---- the answer
+-- --------------------------------------------------------------------------------------
 
 abbrev pub asked_by : Header → Trace → ℕ → Snoop → SnoopKind → Asked
-asked_by h past p s k = record { kind = k; addr = s.addr; held = state_of h past p s.addr; update = has_update h past p s.addr }
+asked_by h past p s k =
+    record {
+      kind = k;
+      addr = s.addr;
+      held = state_of h past p s.addr;
+      update = has_update h past p s.addr;
+    }
 
 -- what the answer to the port's oldest unanswered snoop goes by
 abbrev pub asked_of : Header → Trace → ℕ → Option Asked
-asked_of h past p = option_and_then (λ s. option_map (asked_by h past p s) (ac_kind_of s.snoop)) (answered past p)
+asked_of h past p =
+    option_and_then (λ s. option_map (asked_by h past p s) (ac_kind_of s.snoop)) (answered past p)
 
 -- the snoop has a row; a DVM snoop has one
 abbrev pub can_answer : Asked → Bool
 can_answer a = not (is_line_snoop a.kind) || not (length (snoop_rows a.kind a.held a.update) == 0)
 
 -- It is a row for the snoop, of those that the policy picks where it is a line snoop.
-pub record IsRowFor (rows : SnoopKind → LineState → Bool → List Row) (a : Asked) (r : Row) : Type 0 where
+pub record IsRowFor (rows : SnoopKind → LineState → Bool → List Row)
+    (a : Asked) (r : Row) : Type 0 where
   pub can : can_answer a ≡ true
   pub row : is_snoop_row a.kind a.held a.update r.resp r.next ≡ true
   pub picked : is_line_snoop a.kind ≡ true → Contains (rows a.kind a.held a.update) r
@@ -76,9 +88,11 @@ pub record IsRowFor (rows : SnoopKind → LineState → Bool → List Row) (a : 
 abbrev pub comes_with : Trace → ℕ → Asked → ℕ → List Event
 comes_with past p a resp =
     if is_complete_snoop a.kind then retirement past p Ok
-    else if is_line_snoop a.kind && transfers_data resp then data_burst p (copy_of past p a.addr) else []
+    else if is_line_snoop a.kind && transfers_data resp
+    then data_burst p (copy_of past p a.addr) else []
 
--- The burst is an answer that a step of the port gives, and breaks no rule; after it the port has sent the data of its answers.
+-- The burst is an answer that a step of the port gives, and breaks no rule; after it the port has
+-- sent the data of its answers.
 pub record IsAnswer (plan : Plan) (past : Trace) (p : ℕ) (burst : List Event) : Type 0 where
   pub may : may_answer_snoop plan.header past p ≡ true
   pub step : answers_snoop plan.header past p burst ≡ true

@@ -27,8 +27,8 @@ abbrev pub IsOneOf : Option Asking → List (List Event) → Type 0
 IsOneOf None bursts = bursts ≡ []
 IsOneOf (Some asking) bursts = Contains bursts (events_of asking)
 
--- The trace is legal, and the port's next operation doesn't wait and can't end; if it is a read ahead, the reads of its line that the port has
--- issued for it are of its kind.
+-- The trace is legal, and the port's next operation doesn't wait and can't end; if it is a read
+-- ahead, the reads of its line that the port has issued for it are of its kind.
 pub record MayAsk (plan : Plan) (past : Trace) (p : ℕ) (op : Op) : Type 0 where
   pub legal : IsLegal plan past
   pub next : next_operation plan past p ≡ Some op

@@ -8,7 +8,8 @@ use Rattle.ace_engine.specs.Rooms.{most_snoops}
 use Rattle.ace_portck.specs.declared.one_port.OnePort.{OnePort}
 use Rattle.ace_portck.specs.OnePort.{IsRoomy, OnePortStands, port_of}
 
--- It says what there is to say of its port, and has room for all snoops of a plan at an ACE port; others have none.
+-- It says what there is to say of its port, and has room for all snoops of a plan at an ACE port;
+-- others have none.
 pub record KeepsPort (s : OnePort) (plan : Plan) (past : Trace) : Type 0 where
   pub legal : IsLegal plan past
   pub kept : OnePortStands s plan.header past (port_of s)

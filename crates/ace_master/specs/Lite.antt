@@ -78,7 +78,8 @@ AreSent plan past p (Some d) = IsUnsent plan past p d
 
 -- What it keeps beside its port: the port's operations, what the port has issued for the next of
 -- them, and the data of the burst that isn't sent.
-pub record LiteTells (plan : Plan) (past : Trace) (p : ℕ) (operations : List Op) (reads writes : Option Transaction) (unsent : Option WriteData) : Type 0 where
+pub record LiteTells (plan : Plan) (past : Trace) (p : ℕ) (operations : List Op)
+    (reads writes : Option Transaction) (unsent : Option WriteData) : Type 0 where
   pub low : nat_lt p plan.header.ports ≡ true
   pub lite : is_ace plan.header p ≡ false
   pub operations_are : operations ≡ operations_of plan p

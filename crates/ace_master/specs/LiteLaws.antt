@@ -22,7 +22,9 @@ legal s plan past stands = stands.port.legal
 pub same-operations : (plan : Plan) (o : PlanOp) (p : ℕ) → (o.port == p) ≡ false
     → operations_of (longer plan o) p ≡ operations_of plan p
 same-operations plan o p other =
-    operations-longer plan (o ∷ []) p ∙ ap (λ (b : Bool). operations_of plan p ++ map (λ (v : PlanOp). v.op) (if b then o ∷ [] else [])) other ∙ append-nil (operations_of plan p)
+    operations-longer plan (o ∷ []) p ∙ ap (λ (b : Bool). operations_of plan p
+    ++ map (λ (v : PlanOp). v.op) (if b then o ∷ [] else [])) other ∙ append-nil
+    (operations_of plan p)
 
 pub sent-longer : (plan : Plan) (o : PlanOp) (past : Trace) (p : ℕ) (unsent : Option WriteData)
     → AreSent plan past p unsent → AreSent (longer plan o) past p unsent
@@ -33,7 +35,8 @@ sent-longer plan o past p (Some d) u = record {
   writes = u.writes;
   sent = u.sent;
   behind = u.behind;
-  is_behind = next-longer plan (o ∷ []) (at_point u.last.place past) u.last.port u.behind u.is_behind;
+  is_behind = next-longer plan (o ∷ []) (at_point u.last.place past)
+      u.last.port u.behind u.is_behind;
   kind = u.kind;
   carries = u.carries;
 }
@@ -42,7 +45,11 @@ pub grows : (s : LiteMaster) (plan : Plan) (past : Trace) (o : PlanOp) → LiteS
     → IsRight (longer plan o)
     → is_their_operation Master (λ p. p == port_of s) o ≡ false → LiteStands s (longer plan o) past
 grows s plan past o stands right other = record {
-  port = record { legal = legal-longer plan past o stands.port.legal right; kept = stands.port.kept; room = stands.port.room };
+  port = record {
+    legal = legal-longer plan past o stands.port.legal right;
+    kept = stands.port.kept;
+    room = stands.port.room;
+  };
   identifiers = stands.identifiers;
   tells = record {
     low = stands.tells.low;
@@ -53,7 +60,8 @@ grows s plan past o stands right other = record {
       made = stands.tells.issued.made;
       acts = stands.tells.issued.acts;
       whole =
-          ap (λ (os : List Op). are_none_or_all (slice_get os (retired past (port_of s))) (both_of s.read s.write)) (same-operations plan o (port_of s) other)
+          ap (λ (os : List Op). are_none_or_all (slice_get os (retired past (port_of s)))
+          (both_of s.read s.write)) (same-operations plan o (port_of s) other)
           ∙ stands.tells.issued.whole;
     };
     sent = sent-longer plan o past (port_of s) s.unsent stands.tells.sent;

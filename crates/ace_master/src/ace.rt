@@ -25,8 +25,9 @@ pub struct AceMaster<P: Policy> {
 }
 
 impl<P: Policy + Drop> AceMaster<P> {
-    /// The master of the port for a plan and the empty trace. Where the word of the plan is `keep` or `eager`, the policy may pick the row of that
-    /// word alone. It takes all the memory that it will need, also for the operations that it can be given.
+    /// The master of the port for a plan and the empty trace. Where the word of the plan is `keep`
+    /// or `eager`, the policy may pick the row of that word alone. It takes all the memory that it
+    /// will need, also for the operations that it can be given.
     ///
     /// # Errors
     ///
@@ -51,18 +52,22 @@ impl<P: Policy + Drop> AceMaster<P> {
 impl<P: Policy> AceMaster<P> {
     /// How many operations of the port retired.
     pub fn retired(&self) -> u16
-        ensures { (plan : Plan) (past : Trace) → AceStands self.now.at (P.rows self.now.policy) plan past → result ≡ retired past self.now.at.port }
+        ensures { (plan : Plan) (past : Trace) → AceStands self.now.at
+            (P.rows self.now.policy) plan past → result ≡ retired past self.now.at.port }
     {
         self.at.retired()
     }
 
     /// Puts the operation at the end of those of the port. It takes no memory.
     pub fn push(&mut self, op: Op)
-        requires { (plan : Plan) × (past : Trace) × AceStands self.old.at (P.rows self.old.policy) plan past
+        requires { (plan : Plan) × (past : Trace)
+            × AceStands self.old.at (P.rows self.old.policy) plan past
             × IsRight (longer plan (record { port = self.old.at.port; op = op })) }
-        ensures stands { (plan : Plan) (past : Trace) → AceStands self.old.at (P.rows self.old.policy) plan past
+        ensures stands { (plan : Plan) (past : Trace)
+            → AceStands self.old.at (P.rows self.old.policy) plan past
             → IsRight (longer plan (record { port = self.old.at.port; op = op }))
-            → AceStands self.new.at (P.rows self.new.policy) (longer plan (record { port = self.old.at.port; op = op })) past }
+            → AceStands self.new.at (P.rows self.new.policy)
+            (longer plan (record { port = self.old.at.port; op = op })) past }
         ensures port { self.new.at.port ≡ self.old.at.port }
     {
         self.at.push(op);

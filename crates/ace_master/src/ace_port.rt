@@ -17,20 +17,22 @@ use ace_model::{Op, PlanView};
 use ace_portck::WriteData;
 use std::alloc::Global;
 
-/// What the master of an ACE port keeps, but for its policy. It sends the burst of a write before it issues another, so one unsent burst is all it has.
+/// What the master of an ACE port keeps, but for its policy. It sends the burst of a write before
+/// it issues another, so one unsent burst is all it has.
 #[derive(Drop)]
 pub struct AcePort {
     pub port: u8,
     pub kept: Kept,
     /// The port's operations, in order.
     pub operations: PortOperations,
-    /// The data of the operation for which the write was issued whose burst isn't sent, where it carries an operation's.
+    /// The data of the operation for which the write was issued whose burst isn't sent, where it
+    /// carries an operation's.
     pub unsent: Option<WriteData>,
 }
 
 impl AcePort {
-    /// What is kept of the port of a plan and the empty trace. It takes all the memory that it will need, also for the operations that it can be
-    /// given.
+    /// What is kept of the port of a plan and the empty trace. It takes all the memory that it will
+    /// need, also for the operations that it can be given.
     ///
     /// # Errors
     ///
@@ -53,22 +55,26 @@ impl AcePort {
 
     /// How many operations of the port retired.
     pub fn retired(&self) -> u16
-        ensures { (plan : Plan) (past : Trace) → AcePortStands self.now plan past → result ≡ retired past self.now.port }
+        ensures { (plan : Plan) (past : Trace) → AcePortStands self.now plan past
+            → result ≡ retired past self.now.port }
     {
         self.kept.port.retired().min(0xffff) as u16
     }
 
     /// The port's next operation.
     pub fn next(&self) -> Option<Op>
-        ensures { (plan : Plan) (past : Trace) → AcePortStands self.now plan past → result ≡ next_operation plan past self.now.port }
+        ensures { (plan : Plan) (past : Trace) → AcePortStands self.now plan past
+            → result ≡ next_operation plan past self.now.port }
     {
         self.operations.get(self.kept.port.retired() as usize)
     }
 
     /// Puts the operation at the end of those of the port. It takes no memory.
     pub fn push(&mut self, op: Op)
-        requires { (plan : Plan) × (past : Trace) × AcePortStands self.old plan past × IsRight (longer plan (record { port = self.old.port; op = op })) }
-        ensures stands { (plan : Plan) (past : Trace) → AcePortStands self.old plan past → IsRight (longer plan (record { port = self.old.port; op = op }))
+        requires { (plan : Plan) × (past : Trace) × AcePortStands self.old plan past
+            × IsRight (longer plan (record { port = self.old.port; op = op })) }
+        ensures stands { (plan : Plan) (past : Trace) → AcePortStands self.old plan past
+            → IsRight (longer plan (record { port = self.old.port; op = op }))
             → AcePortStands self.new (longer plan (record { port = self.old.port; op = op })) past }
         ensures port { self.new.port ≡ self.old.port }
     {
@@ -77,8 +83,10 @@ impl AcePort {
 
     /// Hears the next event of the trace, which is none of the port's master.
     pub fn hear(&mut self, event: &Event)
-        ensures stands { (plan : Plan) (past : Trace) → AcePortStands self.old plan past → IsLegal plan (event.now ∷ past)
-            → is_given_by Master past self.old.port event.now ≡ false → AcePortStands self.new plan (event.now ∷ past) }
+        ensures stands { (plan : Plan) (past : Trace) → AcePortStands self.old plan past
+            → IsLegal plan (event.now ∷ past)
+            → is_given_by Master past self.old.port event.now ≡ false
+            → AcePortStands self.new plan (event.now ∷ past) }
         ensures port { self.new.port ≡ self.old.port }
     {
         self.kept.hear(event);

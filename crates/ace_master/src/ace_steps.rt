@@ -117,12 +117,14 @@ impl AcePort {
         ensures step { (plan : Plan) (past : Trace) (asking : Asking)
             → IsGoingOn self.now plan past op → closing_of plan.header past self.now.port op ≡ []
             → result ≡ Some asking
-            → is_step_by own_steps plan past self.now.port (and_closing plan.header past self.now.port op (events_of asking)) ≡ true }
+            → is_step_by own_steps plan past self.now.port
+            (and_closing plan.header past self.now.port op (events_of asking)) ≡ true }
         ensures none { (plan : Plan) (past : Trace) → IsGoingOn self.now plan past op
             → closing_of plan.header past self.now.port op ≡ [] → result ≡ None
             → moves_of plan.ways plan.header past self.now.port op ≡ [] }
         ensures asks { (plan : Plan) (past : Trace) → AcePortStands self.now plan past
-            → IsOneOf result (bursts_of plan.ways plan.header past self.now.port (request_of op (state_named plan.header past self.now.port op))) }
+            → IsOneOf result (bursts_of plan.ways plan.header past self.now.port
+            (request_of op (state_named plan.header past self.now.port op))) }
     {
         burst_for(
             &self.kept.port,

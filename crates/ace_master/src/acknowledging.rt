@@ -42,9 +42,11 @@ const END_ORDER: [LineState; 5] = [UD, UC, SD, SC, I];
 
 /// The transaction whose acknowledge is due: the read before the write.
 fn due(port: &OnePort) -> Option<Progress>
-    ensures some { (h : Header) (past : Trace) (p : ℕ) → OnePortStands port.now h past p → is_ace h p ≡ true
+    ensures some { (h : Header) (past : Trace) (p : ℕ) → OnePortStands port.now h past p
+        → is_ace h p ≡ true
         → (d : Progress) → result ≡ Some d → IsDue h past p d }
-    ensures none { (h : Header) (past : Trace) (p : ℕ) → OnePortStands port.now h past p → is_ace h p ≡ true → result ≡ None → has_due h past p ≡ false }
+    ensures none { (h : Header) (past : Trace) (p : ℕ) → OnePortStands port.now h past p
+        → is_ace h p ≡ true → result ≡ None → has_due h past p ≡ false }
 {
     match port.acknowledged(Channel::Read) {
         Some(read) => Some(read),
@@ -59,9 +61,11 @@ fn is_exclusive_store(x: &Transaction) -> bool
     x.lock && matches!(read_kind(x), Some(ArKind::CleanUnique))
 }
 
-/// It is an exclusive store that failed: the response says OKAY where EXOKAY says that it passed (Arm IHI 0022E, C9).
+/// It is an exclusive store that failed: the response says OKAY where EXOKAY says that it passed
+/// (Arm IHI 0022E, C9).
 fn has_failed(due: &Progress) -> bool
-    ensures { (h : Header) (past : Trace) (p : ℕ) → IsAccepted h past → is_ace h p ≡ true → IsDue h past p due.now
+    ensures { (h : Header) (past : Trace) (p : ℕ) → IsAccepted h past
+        → is_ace h p ≡ true → IsDue h past p due.now
         → result ≡ has_failed past due.now.transaction }
 {
     is_exclusive_store(&due.transaction) && low_bits(due.response) == 0
@@ -69,7 +73,8 @@ fn has_failed(due: &Progress) -> bool
 
 /// The state that the port holds of the transaction's line; I where it is no line transaction.
 fn held(lines: &Cached, x: &Transaction) -> LineState
-    ensures { (h : Header) (ways : ℕ) (past : Trace) (p : ℕ) → CachedStands h ways past p lines.now → x.now.port ≡ p → result ≡ held_of h past x.now }
+    ensures { (h : Header) (ways : ℕ) (past : Trace) (p : ℕ) → CachedStands h ways past p lines.now
+        → x.now.port ≡ p → result ≡ held_of h past x.now }
 {
     if is_line(x) {
         lines.state(x.addr)
@@ -87,7 +92,8 @@ fn first_of(states: &StateSet) -> Option<LineState>
 
 /// The state in which the port ends the transaction, if there is one (Arm IHI 0022E, C4).
 fn end_state(lines: &Cached, due: &Progress) -> Option<LineState>
-    ensures { (h : Header) (ways : ℕ) (past : Trace) (p : ℕ) → CachedStands h ways past p lines.now → IsAccepted h past → is_ace h p ≡ true
+    ensures { (h : Header) (ways : ℕ) (past : Trace) (p : ℕ) → CachedStands h ways past p lines.now
+        → IsAccepted h past → is_ace h p ≡ true
         → IsDue h past p due.now → result ≡ end_of h past due.now.transaction }
 {
     let x = &due.transaction;
@@ -117,7 +123,8 @@ fn acknowledge(x: &Transaction, st: LineState) -> Event
 
 /// The store that a MakeUnique lacks, which the operation makes.
 fn store_lacked(due: &Progress, next: Option<Op>) -> Option<Event>
-    ensures { (h : Header) (past : Trace) → due.now ≡ progress_of h past due.now.transaction → IsMadeFor due.now.transaction next
+    ensures { (h : Header) (past : Trace) → due.now ≡ progress_of h past due.now.transaction
+        → IsMadeFor due.now.transaction next
         → option_to_list result ≡ lacked_for h past due.now.transaction next }
 {
     match next {
@@ -138,7 +145,8 @@ fn store_lacked(due: &Progress, next: Option<Op>) -> Option<Event>
 /// Puts the acknowledge, and before it the store that a MakeUnique lacks.
 fn put_acknowledge(due: &Progress, next: Option<Op>, st: LineState, out: &mut Burst)
     requires { out.old ≡ [] }
-    ensures burst { (h : Header) (past : Trace) → due.now ≡ progress_of h past due.now.transaction → IsMadeFor due.now.transaction next
+    ensures burst { (h : Header) (past : Trace) → due.now ≡ progress_of h past due.now.transaction
+        → IsMadeFor due.now.transaction next
         → out.new ≡ lacked_and_acknowledge h past due.now.transaction next st }
     ensures few { length out.new ≤ 2 }
 {
@@ -148,13 +156,17 @@ fn put_acknowledge(due: &Progress, next: Option<Op>, st: LineState, out: &mut Bu
     out.push(acknowledge(&due.transaction, st));
 }
 
-/// Puts what ends the operation, if there is one that can end, and hears it. `refused` says whether an exclusive store of it failed.
+/// Puts what ends the operation, if there is one that can end, and hears it. `refused` says whether
+/// an exclusive store of it failed.
 fn close_next(kept: &mut Kept, next: Option<Op>, refused: bool, out: &mut Burst)
     requires { length out.old + 2 ≤ most_events }
-    ensures burst { (plan : Plan) (past : Trace) (p : ℕ) → KeptStands plan past p kept.old → IsTold past p next refused
+    ensures burst { (plan : Plan) (past : Trace) (p : ℕ) → KeptStands plan past p kept.old
+        → IsTold past p next refused
         → out.new ≡ out.old ++ closing_for plan.header past p next }
-    ensures kept { (plan : Plan) (past : Trace) (p : ℕ) → KeptStands plan past p kept.old → IsTold past p next refused
-        → IsLegal plan (onto (closing_for plan.header past p next) past) → KeptStands plan (onto (closing_for plan.header past p next) past) p kept.new }
+    ensures kept { (plan : Plan) (past : Trace) (p : ℕ) → KeptStands plan past p kept.old
+        → IsTold past p next refused
+        → IsLegal plan (onto (closing_for plan.header past p next) past)
+        → KeptStands plan (onto (closing_for plan.header past p next) past) p kept.new }
 {
     if let Some(op) = next {
         close(kept, op, refused, out);
@@ -171,7 +183,8 @@ fn is_one_of(x: &Transaction, issued: &[Transaction]) -> bool
 impl AcePort {
     /// The port's next operation, where the transaction was issued for it.
     fn operation_of(&self, x: &Transaction) -> Option<Op>
-        ensures { (plan : Plan) (past : Trace) → AcePortStands self.now plan past → x.now.port ≡ self.now.port
+        ensures { (plan : Plan) (past : Trace) → AcePortStands self.now plan past
+            → x.now.port ≡ self.now.port
             → result ≡ operation_of plan past self.now.port x.now }
     {
         if is_one_of(x, self.kept.segment.issued()) {
@@ -181,13 +194,17 @@ impl AcePort {
         }
     }
 
-    /// Acknowledges the transaction that is due, if there is one: of a read and a write the read. A MakeUnique for a fill is stored to before. Where
-    /// the transaction was issued for the port's next operation, the operation ends with it if it can.
+    /// Acknowledges the transaction that is due, if there is one: of a read and a write the read. A
+    /// MakeUnique for a fill is stored to before. Where the transaction was issued for the port's
+    /// next operation, the operation ends with it if it can.
     pub fn acknowledge(&mut self, out: &mut Burst) -> bool
         requires { out.old ≡ [] }
-        ensures turn { IsTrue result → (plan : Plan) (past : Trace) → AcePortStands self.old plan past → IsAceTurn self.new plan past out.new }
-        ensures none { result ≡ false → (plan : Plan) (past : Trace) → AcePortStands self.old plan past
-            → may_acknowledge (next_operation plan past self.old.port) plan.header past self.old.port ≡ false }
+        ensures turn { IsTrue result → (plan : Plan) (past : Trace)
+            → AcePortStands self.old plan past → IsAceTurn self.new plan past out.new }
+        ensures none { result ≡ false → (plan : Plan) (past : Trace)
+            → AcePortStands self.old plan past
+            → may_acknowledge (next_operation plan past self.old.port) plan.header
+            past self.old.port ≡ false }
         ensures unchanged { result ≡ false → (self.new ≡ self.old) × (out.new ≡ []) }
         ensures port { self.new.port ≡ self.old.port }
     {

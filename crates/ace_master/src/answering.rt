@@ -41,7 +41,8 @@ pub struct Asked {
 
 /// A memory update of the port on the line is outstanding.
 fn has_update(port: &OnePort, line: u32) -> bool
-    ensures { (h : Header) (past : Trace) (p : ℕ) → OnePortStands port.now h past p → result ≡ has_update h past p line }
+    ensures { (h : Header) (past : Trace) (p : ℕ) → OnePortStands port.now h past p
+        → result ≡ has_update h past p line }
 {
     match port.own(line) {
         Some(own) => updates_memory(&own.transaction),
@@ -51,7 +52,8 @@ fn has_update(port: &OnePort, line: u32) -> bool
 
 /// What the answer to the port's oldest unanswered snoop goes by.
 fn oldest_snoop(port: &OnePort, cached: &Cached) -> Option<Asked>
-    ensures { (plan : Plan) (past : Trace) → Stands plan past port.now cached.now → result ≡ asked_of plan.header past (port_of port.now) }
+    ensures { (plan : Plan) (past : Trace) → Stands plan past port.now cached.now
+        → result ≡ asked_of plan.header past (port_of port.now) }
 {
     let snoop = port.answered()?;
     let kind = read_ac(snoop.snoop)?;
@@ -68,7 +70,8 @@ fn oldest_snoop(port: &OnePort, cached: &Cached) -> Option<Asked>
 fn row_for<P: Policy>(policy: &mut P, asked: &Asked) -> Option<Row>
     ensures none { result ≡ None → can_answer asked.now ≡ false }
     ensures row { (r : Row) → result ≡ Some r → IsRowFor (P.rows policy.old) asked.now r }
-    ensures same_rows { (k : SnoopKind) (st : LineState) (u : Bool) → P.rows policy.new k st u ≡ P.rows policy.old k st u }
+    ensures same_rows { (k : SnoopKind) (st : LineState) (u : Bool)
+        → P.rows policy.new k st u ≡ P.rows policy.old k st u }
     ensures unchanged { result ≡ None → policy.new ≡ policy.old }
 {
     if !is_line_snoop(asked.kind) {
@@ -112,11 +115,13 @@ fn data_beats(port: u8, line: &Line) -> [Event; 4]
     ]
 }
 
-/// Puts what comes with the CR: after that of a DVM Complete the OP of the Sync, else the data that it announces.
+/// Puts what comes with the CR: after that of a DVM Complete the OP of the Sync, else the data that
+/// it announces.
 fn put_rest(port: &OnePort, cached: &Cached, asked: &Asked, resp: u8, out: &mut Burst)
     requires { length out.old + 4 ≤ most_events }
     ensures { (plan : Plan) (past : Trace) → Stands plan past port.now cached.now
-        → (transfers_data resp ≡ true → is_invalid (state_of plan.header past (port_of port.now) asked.now.addr) ≡ false)
+        → (transfers_data resp ≡ true
+        → is_invalid (state_of plan.header past (port_of port.now) asked.now.addr) ≡ false)
         → out.new ≡ out.old ++ comes_with past (port_of port.now) asked.now resp }
 {
     match asked.kind {
@@ -130,15 +135,20 @@ fn put_rest(port: &OnePort, cached: &Cached, asked: &Asked, resp: u8, out: &mut 
     }
 }
 
-/// Puts the answer to the port's oldest unanswered snoop, with what comes with it, where there is a row for it.
+/// Puts the answer to the port's oldest unanswered snoop, with what comes with it, where there is a
+/// row for it.
 pub fn answer<P: Policy>(port: &OnePort, cached: &Cached, policy: &mut P, out: &mut Burst) -> bool
     requires { out.old ≡ [] }
-    ensures answer { IsTrue result → (plan : Plan) (past : Trace) → Stands plan past port.now cached.now → IsAnswer plan past (port_of port.now) out.new }
-    ensures chosen { IsTrue result → (plan : Plan) (past : Trace) → Stands plan past port.now cached.now → IsByWord plan.policy (P.rows policy.old)
+    ensures answer { IsTrue result → (plan : Plan) (past : Trace)
+        → Stands plan past port.now cached.now → IsAnswer plan past (port_of port.now) out.new }
+    ensures chosen { IsTrue result → (plan : Plan) (past : Trace)
+        → Stands plan past port.now cached.now → IsByWord plan.policy (P.rows policy.old)
         → AreChosen plan past out.new }
-    ensures none { result ≡ false → (plan : Plan) (past : Trace) → Stands plan past port.now cached.now
+    ensures none { result ≡ false → (plan : Plan) (past : Trace)
+        → Stands plan past port.now cached.now
         → may_answer_snoop plan.header past (port_of port.now) ≡ false }
-    ensures same_rows { (k : SnoopKind) (st : LineState) (u : Bool) → P.rows policy.new k st u ≡ P.rows policy.old k st u }
+    ensures same_rows { (k : SnoopKind) (st : LineState) (u : Bool)
+        → P.rows policy.new k st u ≡ P.rows policy.old k st u }
     ensures unchanged { result ≡ false → (policy.new ≡ policy.old) × (out.new ≡ []) }
 {
     let Some(asked) = oldest_snoop(port, cached) else {

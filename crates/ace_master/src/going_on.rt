@@ -104,7 +104,8 @@ impl AcePort {
             → IsAceTurn self.new plan past out.new }
         ensures none { result ≡ false → (plan : Plan) (past : Trace)
             → AcePortStands self.old plan past
-            → may_go_on plan.ways (next_operation plan past self.old.port) plan.header past self.old.port ≡ false }
+            → may_go_on plan.ways (next_operation plan past self.old.port)
+            plan.header past self.old.port ≡ false }
         ensures unchanged { result ≡ false → (self.new ≡ self.old) × (out.new ≡ []) }
         ensures port { self.new.port ≡ self.old.port }
     {

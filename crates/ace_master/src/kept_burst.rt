@@ -20,7 +20,8 @@ use ace_model::Op;
 
 /// Hears the events of the burst, which come next.
 pub fn hear_all(kept: &mut Kept, burst: &Burst)
-    ensures stands { (plan : Plan) (past : Trace) (p : ℕ) → KeptStands plan past p kept.old → IsLegal plan (onto burst.now past) → HaveLowIds burst.now
+    ensures stands { (plan : Plan) (past : Trace) (p : ℕ) → KeptStands plan past p kept.old
+        → IsLegal plan (onto burst.now past) → HaveLowIds burst.now
         → KeptStands plan (onto burst.now past) p kept.new }
     ensures most { length burst.now ≤ most_events }
 {
@@ -32,7 +33,8 @@ pub fn hear_all(kept: &mut Kept, burst: &Burst)
 /// Hears the event, which comes next, and puts it at the end of the burst.
 fn put(kept: &mut Kept, event: Event, out: &mut Burst)
     requires { length out.old < most_events }
-    ensures stands { (plan : Plan) (past : Trace) (p : ℕ) → KeptStands plan past p kept.old → IsLegal plan (event ∷ past) → HasLowId event
+    ensures stands { (plan : Plan) (past : Trace) (p : ℕ) → KeptStands plan past p kept.old
+        → IsLegal plan (event ∷ past) → HasLowId event
         → KeptStands plan (event ∷ past) p kept.new }
     ensures burst { out.new ≡ out.old ++ event ∷ [] }
 {
@@ -40,13 +42,16 @@ fn put(kept: &mut Kept, event: Event, out: &mut Burst)
     out.push(event);
 }
 
-/// Hears what ends the port's next operation, if anything does, and puts it at the end of the burst. `refused` says whether the interconnect
-/// refused an exclusive store of the operation.
+/// Hears what ends the port's next operation, if anything does, and puts it at the end of the
+/// burst. `refused` says whether the interconnect refused an exclusive store of the operation.
 pub fn close(kept: &mut Kept, op: Op, refused: bool, out: &mut Burst)
     requires { length out.old + 2 ≤ most_events }
-    ensures stands { (plan : Plan) (past : Trace) (p : ℕ) → KeptStands plan past p kept.old → has_right_fields op ≡ true → IsToldOf past p op refused
-        → IsLegal plan (onto (closing_of plan.header past p op) past) → KeptStands plan (onto (closing_of plan.header past p op) past) p kept.new }
-    ensures burst { (plan : Plan) (past : Trace) (p : ℕ) → KeptStands plan past p kept.old → has_right_fields op ≡ true → IsToldOf past p op refused
+    ensures stands { (plan : Plan) (past : Trace) (p : ℕ) → KeptStands plan past p kept.old
+        → has_right_fields op ≡ true → IsToldOf past p op refused
+        → IsLegal plan (onto (closing_of plan.header past p op) past)
+        → KeptStands plan (onto (closing_of plan.header past p op) past) p kept.new }
+    ensures burst { (plan : Plan) (past : Trace) (p : ℕ) → KeptStands plan past p kept.old
+        → has_right_fields op ≡ true → IsToldOf past p op refused
         → out.new ≡ out.old ++ closing_of plan.header past p op }
 {
     match kept.closing_of(op, refused) {

@@ -32,9 +32,11 @@ fn stores_data(write: &Transaction) -> bool
     )
 }
 
-/// What the port's next write carries: the data of its operation, or the port's copy of the line that it writes back.
+/// What the port's next write carries: the data of its operation, or the port's copy of the line
+/// that it writes back.
 fn data_to_send(cached: &Cached, write: &Transaction, unsent: Option<WriteData>) -> WriteData
-    ensures { (plan : Plan) (past : Trace) (p : ℕ) → KeepsData plan past p unsent → CachedStands plan.header plan.ways past p cached.now
+    ensures { (plan : Plan) (past : Trace) (p : ℕ) → KeepsData plan past p unsent
+        → CachedStands plan.header plan.ways past p cached.now
         → IsDataOf plan past p write.now result }
 {
     match unsent {
@@ -46,14 +48,16 @@ fn data_to_send(cached: &Cached, write: &Transaction, unsent: Option<WriteData>)
     }
 }
 
-/// Puts the four W of the port's oldest write with data whose burst isn't sent. `unsent` are the data of the operation for which that
-/// was issued, where it was for one's data.
+/// Puts the four W of the port's oldest write with data whose burst isn't sent. `unsent` are the
+/// data of the operation for which that was issued, where it was for one's data.
 pub fn send(port: &OnePort, cached: &Cached, unsent: Option<WriteData>, out: &mut Burst) -> bool
     requires { out.old ≡ [] }
     ensures sent { IsTrue result → (plan : Plan) (past : Trace) → KeepsPort port.now plan past
-        → CachedStands plan.header plan.ways past (port_of port.now) cached.now → KeepsData plan past (port_of port.now) unsent
+        → CachedStands plan.header plan.ways past (port_of port.now) cached.now
+        → KeepsData plan past (port_of port.now) unsent
         → IsSent plan past (port_of port.now) out.new }
-    ensures none { result ≡ false → (plan : Plan) (past : Trace) → KeepsPort port.now plan past → may_send plan.header past (port_of port.now) ≡ false }
+    ensures none { result ≡ false → (plan : Plan) (past : Trace)
+        → KeepsPort port.now plan past → may_send plan.header past (port_of port.now) ≡ false }
     ensures unchanged { result ≡ false → out.new ≡ [] }
 {
     if port.next_write_beat() != 0 {

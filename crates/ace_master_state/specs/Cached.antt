@@ -26,24 +26,27 @@ abbrev pub state_in : Option Way → LineState
 state_in None = I
 state_in (Some way) = way.st
 
--- The way of a line: there is one where the port holds the line, in the port's state and with its copy, and it is busy where a transaction of
--- the port on the line is outstanding.
+-- The way of a line: there is one where the port holds the line, in the port's state and with its
+-- copy, and it is busy where a transaction of the port on the line is outstanding.
 pub record LineHeld (h : Header) (past : Trace) (p l : ℕ) (way : Option Way) : Type 0 where
   pub state : state_in way ≡ state_of h past p l
   pub some : (w : Way) → way ≡ Some w → is_invalid w.st ≡ false
   pub busy : (w : Way) → way ≡ Some w → w.busy ≡ has_outstanding_on h past p l
   pub copy : (w : Way) → way ≡ Some w → w.line ≡ copy_of past p l
 
--- The lines that come to the port: what an outstanding read has brought of its line so far, and what a MakeUnique has stored. The identifiers of
--- its reads are below 16.
+-- The lines that come to the port: what an outstanding read has brought of its line so far, and
+-- what a MakeUnique has stored. The identifiers of its reads are below 16.
 pub record ArrivingStand (h : Header) (past : Trace) (p : ℕ) (arriving : List Line) : Type 0 where
   pub low : (i : ℕ) (x : Transaction) → outstanding h past p Read i ≡ Some x → i < 16
   pub four : (i : ℕ) → i < 16 → length (line_under arriving i).words ≡ 4
   pub words :
-      (i : ℕ) (x : Transaction) → outstanding h past p Read i ≡ Some x → is_some_and (read_kind x) is_fetch ≡ true
-      → (n w : ℕ) → slice_get (words_read past p i) n ≡ Some w → slice_get (line_under arriving i).words n ≡ Some w
+      (i : ℕ) (x : Transaction) → outstanding h past p Read i ≡ Some x
+      → is_some_and (read_kind x) is_fetch ≡ true
+      → (n w : ℕ) → slice_get (words_read past p i) n ≡ Some w
+      → slice_get (line_under arriving i).words n ≡ Some w
   pub stored :
-      (i : ℕ) (x : Transaction) → outstanding h past p Read i ≡ Some x → is_some_and (read_kind x) is_make_unique ≡ true
+      (i : ℕ) (x : Transaction) → outstanding h past p Read i ≡ Some x
+      → is_some_and (read_kind x) is_make_unique ≡ true
       → has_store h past p i ≡ true → line_under arriving i ≡ copy_of past p x.addr
 
 -- What is kept of the lines of a port, with so many ways.

@@ -6,7 +6,9 @@ use Rattle.ace_master_state.specs.declared.completions.Completions.{Completions}
 
 -- the part of a message that the port answers next is a second one
 abbrev pub awaits_second : Trace → ℕ → Bool
-awaits_second past p = is_some_and (slice_get (parts_for past p) (length (answered_parts past p))) (is_second_part past)
+awaits_second past p =
+    is_some_and (slice_get (parts_for past p) (length (answered_parts past p)))
+    (is_second_part past)
 
 pub record CompletionsStand (past : Trace) (p : ℕ) (s : Completions) : Type 0 where
   pub port : s.port ≡ p

@@ -12,7 +12,8 @@ pub record MonitorStands (h : Header) (past : Trace) (p : ℕ) (s : Monitor) : T
   pub port : s.port ≡ p
   pub set : (l : ℕ) → is_monitored h past p l ≡ is_some_and s.line (λ k. k == l)
 
--- the line after the event, whatever the states of the lines are: that of an exclusive load, and none after an exclusive store
+-- the line after the event, whatever the states of the lines are: that of an exclusive load, and
+-- none after an exclusive store
 abbrev pub line_after : Option ℕ → ℕ → Event → Option ℕ
 line_after line p (L q addr w x word) = if (q == p) && x then Some addr else line
 line_after line p (D q addr strobe x bytes) = if (q == p) && x then None else line

@@ -45,7 +45,8 @@ impl Arriving {
     /// Puts the word into the line under the identifier, which has four.
     pub fn put_word(&mut self, id: u8, number: u8, word: u128)
         ensures word { id < 16 → number < 4
-            → self.new ≡ slice_set self.old id (record { words = slice_set (line_under self.old id).words number word }) }
+            → self.new ≡ slice_set self.old id
+            (record { words = slice_set (line_under self.old id).words number word }) }
         ensures sixteen { length self.old ≡ 16 }
     {
         let mut line = self.get(id);

@@ -66,7 +66,8 @@ impl Cached {
 
     /// The state of the line at the port.
     pub fn state(&self, line: u32) -> LineState
-        ensures { (h : Header) (ways : ℕ) (past : Trace) (p : ℕ) → CachedStands h ways past p self.now → result ≡ state_of h past p line }
+        ensures { (h : Header) (ways : ℕ) (past : Trace) (p : ℕ)
+            → CachedStands h ways past p self.now → result ≡ state_of h past p line }
     {
         match self.cache.find(line) {
             Some(way) => way.st,
@@ -76,7 +77,8 @@ impl Cached {
 
     /// The port's copy of a line that it holds.
     pub fn copy(&self, line: u32) -> Line
-        ensures { (h : Header) (ways : ℕ) (past : Trace) (p : ℕ) → CachedStands h ways past p self.now → is_invalid (state_of h past p line) ≡ false
+        ensures { (h : Header) (ways : ℕ) (past : Trace) (p : ℕ)
+            → CachedStands h ways past p self.now → is_invalid (state_of h past p line) ≡ false
             → result ≡ copy_of past p line }
     {
         match self.cache.find(line) {
@@ -87,16 +89,19 @@ impl Cached {
 
     /// The port holds fewer lines than it has ways.
     pub fn has_room(&self) -> bool
-        ensures { (h : Header) (ways : ℕ) (past : Trace) (p : ℕ) → CachedStands h ways past p self.now → result ≡ has_room ways h past p }
+        ensures { (h : Header) (ways : ℕ) (past : Trace) (p : ℕ)
+            → CachedStands h ways past p self.now → result ≡ has_room ways h past p }
     {
         self.cache.has_room()
     }
-    /// A line to give up for another, where the port has no room: of those on which no transaction is outstanding the one that came in
-    /// or was stored to least recently.
+    /// A line to give up for another, where the port has no room: of those on which no transaction
+    /// is outstanding the one that came in or was stored to least recently.
     pub fn victim(&self) -> Option<u32>
-        ensures idle { (h : Header) (ways : ℕ) (past : Trace) (p : ℕ) (l : ℕ) → CachedStands h ways past p self.now → result ≡ Some l
+        ensures idle { (h : Header) (ways : ℕ) (past : Trace) (p : ℕ) (l : ℕ)
+            → CachedStands h ways past p self.now → result ≡ Some l
             → (is_invalid (state_of h past p l) ≡ false) × (has_outstanding_on h past p l ≡ false) }
-        ensures none { (h : Header) (ways : ℕ) (past : Trace) (p : ℕ) (l : ℕ) → CachedStands h ways past p self.now → result ≡ None → has_room ways h past p ≡ false
+        ensures none { (h : Header) (ways : ℕ) (past : Trace) (p : ℕ) (l : ℕ)
+            → CachedStands h ways past p self.now → result ≡ None → has_room ways h past p ≡ false
             → is_invalid (state_of h past p l) ≡ false → has_outstanding_on h past p l ≡ true }
     {
         if self.cache.has_room() {
@@ -107,8 +112,12 @@ impl Cached {
 
     /// What an event of the port, an ACE port, brings of a line.
     fn bring(&mut self, port: &OnePort, event: &Event)
-        ensures arriving { (plan : Plan) (past : Trace) (p : ℕ) → OnePortStands port.now plan.header past p → is_ace plan.header p ≡ true → IsLegal plan (event.now ∷ past)
-            → port_of event.now ≡ Some p → HasLowId event.now → ArrivingStand plan.header past p self.old.arriving → ArrivingStand plan.header (event.now ∷ past) p self.new.arriving }
+        ensures arriving { (plan : Plan) (past : Trace) (p : ℕ)
+            → OnePortStands port.now plan.header past p → is_ace plan.header p ≡ true
+            → IsLegal plan (event.now ∷ past)
+            → port_of event.now ≡ Some p → HasLowId event.now
+            → ArrivingStand plan.header past p self.old.arriving
+            → ArrivingStand plan.header (event.now ∷ past) p self.new.arriving }
         ensures cache { self.new.cache ≡ self.old.cache }
     {
         every_event_fits(*event);
@@ -129,10 +138,13 @@ impl Cached {
         }
     }
 
-    /// Hears the next event of the trace. `port` is what is kept of the port, an ACE port, before it.
+    /// Hears the next event of the trace. `port` is what is kept of the port, an ACE port, before
+    /// it.
     pub fn hear(&mut self, port: &OnePort, event: &Event)
-        ensures { (plan : Plan) (past : Trace) (p : ℕ) → OnePortStands port.now plan.header past p → is_ace plan.header p ≡ true → IsLegal plan (event.now ∷ past)
-            → (port_of event.now ≡ Some p → HasLowId event.now) → CachedStands plan.header plan.ways past p self.old
+        ensures { (plan : Plan) (past : Trace) (p : ℕ) → OnePortStands port.now plan.header past p
+            → is_ace plan.header p ≡ true → IsLegal plan (event.now ∷ past)
+            → (port_of event.now ≡ Some p → HasLowId event.now)
+            → CachedStands plan.header plan.ways past p self.old
             → CachedStands plan.header plan.ways (event.now ∷ past) p self.new }
     {
         every_event_fits(*event);

@@ -29,7 +29,8 @@ pub enum Change {
     Begins {
         addr: u32,
     },
-    /// It is no longer, and the port holds the line in this state: where it didn't hold it before, with these bytes.
+    /// It is no longer, and the port holds the line in this state: where it didn't hold it before,
+    /// with these bytes.
     Ends {
         addr: u32,
         st: LineState,
@@ -61,7 +62,8 @@ fn begins(begun: Option<Transaction>) -> Change
 
 /// A transaction ends, and leaves its line in this state.
 fn ends(ended: Option<Progress>, st: LineState, arriving: &Arriving) -> Change
-    ensures { (h : Header) (past : Trace) (x : Option Transaction) → ended ≡ option_map (progress_of h past) x → result ≡ ends x st arriving.now }
+    ensures { (h : Header) (past : Trace) (x : Option Transaction)
+        → ended ≡ option_map (progress_of h past) x → result ≡ ends x st arriving.now }
 {
     let Some(x) = ended else {
         return Change::Nothing;
@@ -88,7 +90,8 @@ fn becomes(answered: Option<Snoop>, st: LineState) -> Change
 
 /// What an event of the port, an ACE port, does to the lines that it holds.
 pub fn change_of(port: &OnePort, arriving: &Arriving, event: &Event) -> Change
-    ensures { (h : Header) (past : Trace) (p : ℕ) → OnePortStands port.now h past p → is_ace h p ≡ true → port_of event.now ≡ Some p
+    ensures { (h : Header) (past : Trace) (p : ℕ) → OnePortStands port.now h past p
+        → is_ace h p ≡ true → port_of event.now ≡ Some p
         → result ≡ change_of h past arriving.now event.now }
 {
     match *event {
@@ -119,7 +122,8 @@ pub fn change_of(port: &OnePort, arriving: &Arriving, event: &Event) -> Change
 /// A transaction on the line is under way.
 fn begin(cache: &mut LineCache, addr: u32)
     ensures ways { cache.new.ways ≡ cache.old.ways }
-    ensures changed { (l : ℕ) → way_of cache.new.held l ≡ changed (Begins addr) l (way_of cache.old.held l) }
+    ensures changed { (l : ℕ) → way_of cache.new.held l
+        ≡ changed (Begins addr) l (way_of cache.old.held l) }
 {
     if let Some(way) = cache.find(addr) {
         cache.set(addr, way.st, true);
@@ -129,7 +133,8 @@ fn begin(cache: &mut LineCache, addr: u32)
 /// The line is in this state, and no transaction on it is under way.
 fn end(cache: &mut LineCache, addr: u32, st: LineState, bytes: Line)
     ensures ways { cache.new.ways ≡ cache.old.ways }
-    ensures changed { HasPlace cache.old (Ends addr st bytes) → (l : ℕ) → way_of cache.new.held l ≡ changed (Ends addr st bytes) l (way_of cache.old.held l) }
+    ensures changed { HasPlace cache.old (Ends addr st bytes) → (l : ℕ)
+        → way_of cache.new.held l ≡ changed (Ends addr st bytes) l (way_of cache.old.held l) }
 {
     let held = cache.find(addr).is_some();
     if is_invalid(st) {
@@ -146,7 +151,8 @@ fn end(cache: &mut LineCache, addr: u32, st: LineState, bytes: Line)
 /// The line is in this state, where it is held.
 fn keep(cache: &mut LineCache, addr: u32, st: LineState)
     ensures ways { cache.new.ways ≡ cache.old.ways }
-    ensures changed { (l : ℕ) → way_of cache.new.held l ≡ changed (Becomes addr st) l (way_of cache.old.held l) }
+    ensures changed { (l : ℕ) → way_of cache.new.held l
+        ≡ changed (Becomes addr st) l (way_of cache.old.held l) }
 {
     if let Some(way) = cache.find(addr) {
         if is_invalid(st) {
@@ -160,7 +166,8 @@ fn keep(cache: &mut LineCache, addr: u32, st: LineState)
 /// The port stores into the line, where it is held.
 fn store(cache: &mut LineCache, addr: u32, strobe: u64, bytes: Line, st: Option<LineState>)
     ensures ways { cache.new.ways ≡ cache.old.ways }
-    ensures changed { (l : ℕ) → way_of cache.new.held l ≡ changed (Stores addr strobe bytes st) l (way_of cache.old.held l) }
+    ensures changed { (l : ℕ) → way_of cache.new.held l
+        ≡ changed (Stores addr strobe bytes st) l (way_of cache.old.held l) }
 {
     if let Some(way) = cache.find(addr) {
         cache.store(addr, strobe, bytes);
@@ -171,7 +178,8 @@ fn store(cache: &mut LineCache, addr: u32, strobe: u64, bytes: Line, st: Option<
 /// Makes the change.
 pub fn make(cache: &mut LineCache, change: &Change)
     ensures ways { cache.new.ways ≡ cache.old.ways }
-    ensures changed { HasPlace cache.old change.now → (l : ℕ) → way_of cache.new.held l ≡ changed change.now l (way_of cache.old.held l) }
+    ensures changed { HasPlace cache.old change.now → (l : ℕ)
+        → way_of cache.new.held l ≡ changed change.now l (way_of cache.old.held l) }
 {
     match *change {
         Change::Nothing => {}

@@ -21,7 +21,8 @@ use ace_model::Snoop;
 use ace_model::kinds::read_kind;
 use ace_portck::{OnePort, is_at, issued};
 
-/// How many Syncs of other ports a port has answered, and how many DVM Completes it has issued (Arm IHI 0022E, C12).
+/// How many Syncs of other ports a port has answered, and how many DVM Completes it has issued (Arm
+/// IHI 0022E, C12).
 #[derive(Clone, Copy, Debug, PartialEq, Eq)]
 pub struct Completions {
     port: u8,
@@ -90,14 +91,17 @@ impl Completions {
 
     /// The port has answered more Syncs than it has issued DVM Completes.
     pub fn owes(&self) -> bool
-        ensures { (past : Trace) (p : ℕ) → CompletionsStand past p self.now → result ≡ owes_completion past p }
+        ensures { (past : Trace) (p : ℕ) → CompletionsStand past p self.now
+            → result ≡ owes_completion past p }
     {
         self.issued < self.answered
     }
 
     /// The port issues a transaction.
     fn issue(&mut self, event: &Event)
-        ensures { (plan : Plan) (past : Trace) (p : ℕ) → IsLegal plan (event.now ∷ past) → port_of event.now ≡ Some p → answered_parts (event.now ∷ past) p ≡ answered_parts past p
+        ensures { (plan : Plan) (past : Trace) (p : ℕ) → IsLegal plan (event.now ∷ past)
+            → port_of event.now ≡ Some p → answered_parts (event.now ∷ past) p
+            ≡ answered_parts past p
             → CompletionsStand past p self.old → CompletionsStand (event.now ∷ past) p self.new }
     {
         self.issued = self.issued.wrapping_add(one(completes(event)));
@@ -105,7 +109,8 @@ impl Completions {
 
     /// The port answers the snoop.
     fn answer(&mut self, snoop: &Snoop)
-        ensures { (plan : Plan) (past : Trace) (p resp : ℕ) (st : LineState) → IsLegal plan (Cr p resp st ∷ past) → answered past p ≡ Some snoop.now
+        ensures { (plan : Plan) (past : Trace) (p resp : ℕ) (st : LineState)
+            → IsLegal plan (Cr p resp st ∷ past) → answered past p ≡ Some snoop.now
             → CompletionsStand past p self.old → CompletionsStand (Cr p resp st ∷ past) p self.new }
     {
         if !is_message(snoop) {
@@ -118,7 +123,8 @@ impl Completions {
 
     /// Hears the next event of the trace. `port` is what is kept of the port before it.
     pub fn hear(&mut self, port: &OnePort, event: &Event)
-        ensures { (plan : Plan) (past : Trace) (p : ℕ) → OnePortStands port.now plan.header past p → IsLegal plan (event.now ∷ past) → CompletionsStand past p self.old
+        ensures { (plan : Plan) (past : Trace) (p : ℕ) → OnePortStands port.now plan.header past p
+            → IsLegal plan (event.now ∷ past) → CompletionsStand past p self.old
             → CompletionsStand (event.now ∷ past) p self.new }
     {
         if !is_at(event, self.port) {

@@ -13,14 +13,16 @@ use crate::Cached;
 use ace_event::Event;
 use ace_tables::is_invalid;
 
-/// The line of the last exclusive load of a port, as long as an exclusive store of it may pass (Arm IHI 0022E, C9).
+/// The line of the last exclusive load of a port, as long as an exclusive store of it may pass (Arm
+/// IHI 0022E, C9).
 #[derive(Clone, Copy, Debug, PartialEq, Eq)]
 pub struct Monitor {
     port: u8,
     line: Option<u32>,
 }
 
-/// The line for which the monitor is set by the event, where it was set for this one, whatever the states of the lines are.
+/// The line for which the monitor is set by the event, where it was set for this one, whatever the
+/// states of the lines are.
 fn line_after(line: Option<u32>, port: u8, event: &Event) -> Option<u32>
     ensures { result ≡ line_after line port event.now }
 {
@@ -60,14 +62,16 @@ impl Monitor {
 
     /// It is set for the line.
     pub fn is_set(&self, line: u32) -> bool
-        ensures { (h : Header) (past : Trace) (p : ℕ) → MonitorStands h past p self.now → result ≡ is_monitored h past p line }
+        ensures { (h : Header) (past : Trace) (p : ℕ) → MonitorStands h past p self.now
+            → result ≡ is_monitored h past p line }
     {
         self.line.is_some_and(|own| own == line)
     }
 
     /// Hears the next event of the trace. `lines` is what the port holds after it.
     pub fn hear(&mut self, event: &Event, lines: &Cached)
-        ensures { (h : Header) (ways : ℕ) (past : Trace) (p : ℕ) → CachedStands h ways (event.now ∷ past) p lines.now → MonitorStands h past p self.old
+        ensures { (h : Header) (ways : ℕ) (past : Trace) (p : ℕ)
+            → CachedStands h ways (event.now ∷ past) p lines.now → MonitorStands h past p self.old
             → MonitorStands h (event.now ∷ past) p self.new }
     {
         self.line = kept(line_after(self.line, self.port, event), lines);

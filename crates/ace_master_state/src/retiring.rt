@@ -32,21 +32,24 @@ fn count_of_acts(op: Op) -> u8
 impl Kept {
     /// No act that the port has made for its next operation is an outstanding transaction.
     fn are_acts_done(&self) -> bool
-        ensures { (plan : Plan) (past : Trace) (p : ℕ) → KeptStands plan past p self.now → result ≡ are_acts_done plan.header past p }
+        ensures { (plan : Plan) (past : Trace) (p : ℕ) → KeptStands plan past p self.now
+            → result ≡ are_acts_done plan.header past p }
     {
         !self.has(Sought::OpenAct)
     }
 
     /// A memory update that the port issued for its next operation is outstanding.
     pub fn awaits_update(&self) -> bool
-        ensures { (plan : Plan) (past : Trace) (p : ℕ) → KeptStands plan past p self.now → result ≡ awaits_update plan.header past p }
+        ensures { (plan : Plan) (past : Trace) (p : ℕ) → KeptStands plan past p self.now
+            → result ≡ awaits_update plan.header past p }
     {
         self.has(Sought::OpenUpdate)
     }
 
     /// What holds beside the acts where the operation retires with `ok`.
     fn is_met(&self, op: Op) -> bool
-        ensures { (plan : Plan) (past : Trace) (p : ℕ) → KeptStands plan past p self.now → result ≡ is_met plan.header past p op }
+        ensures { (plan : Plan) (past : Trace) (p : ℕ) → KeptStands plan past p self.now
+            → result ≡ is_met plan.header past p op }
     {
         match op {
             Op::Pf { addr, kind } => self.has(Sought::EndedRead { kind, addr }),
@@ -74,14 +77,16 @@ impl Kept {
 
     /// The line isn't in a state from which a write of the kind may start.
     fn is_held_back(&self, kind: AwKind, addr: u32) -> bool
-        ensures { (plan : Plan) (past : Trace) (p : ℕ) → KeptStands plan past p self.now → result ≡ not (starts_write kind (state_of plan.header past p addr)) }
+        ensures { (plan : Plan) (past : Trace) (p : ℕ) → KeptStands plan past p self.now
+            → result ≡ not (starts_write kind (state_of plan.header past p addr)) }
     {
         !start_write_ok(kind, self.lines.state(addr))
     }
 
     /// The operation finds nothing to do.
     fn may_skip(&self, op: Op) -> bool
-        ensures { (plan : Plan) (past : Trace) (p : ℕ) → KeptStands plan past p self.now → result ≡ may_skip plan.header past p op }
+        ensures { (plan : Plan) (past : Trace) (p : ℕ) → KeptStands plan past p self.now
+            → result ≡ may_skip plan.header past p op }
     {
         match op {
             Op::Pf { addr, .. } => {
@@ -95,9 +100,11 @@ impl Kept {
         }
     }
 
-    /// The exclusive store can't be made any more. `refused` says whether the interconnect refused it.
+    /// The exclusive store can't be made any more. `refused` says whether the interconnect refused
+    /// it.
     fn may_fail(&self, op: Op, refused: bool) -> bool
-        ensures { (plan : Plan) (past : Trace) (p : ℕ) → KeptStands plan past p self.now → IsToldOf past p op refused → result ≡ may_fail plan.header past p op }
+        ensures { (plan : Plan) (past : Trace) (p : ℕ) → KeptStands plan past p self.now
+            → IsToldOf past p op refused → result ≡ may_fail plan.header past p op }
     {
         match op {
             Op::Stx { addr, .. } => !self.monitor.is_set(addr) || refused,
@@ -105,9 +112,11 @@ impl Kept {
         }
     }
 
-    /// The port's next operation may retire with the outcome. `refused` says whether the interconnect refused an exclusive store of it.
+    /// The port's next operation may retire with the outcome. `refused` says whether the
+    /// interconnect refused an exclusive store of it.
     pub fn may_retire(&self, op: Op, outcome: Outcome, refused: bool) -> bool
-        ensures { (plan : Plan) (past : Trace) (p : ℕ) → KeptStands plan past p self.now → IsToldOf past p op refused → result ≡ may_retire plan.header past p op outcome }
+        ensures { (plan : Plan) (past : Trace) (p : ℕ) → KeptStands plan past p self.now
+            → IsToldOf past p op refused → result ≡ may_retire plan.header past p op outcome }
     {
         match outcome {
             Outcome::Ok => self.segment.acts() == count_of_acts(op) && self.is_met(op),

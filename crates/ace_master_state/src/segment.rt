@@ -21,7 +21,8 @@ use std::alloc::Global;
 /// The most transactions that a port issues for an operation.
 const MOST: usize = 3;
 
-/// The transactions that a port has issued for its next operation, in order, and how many acts it has made for it.
+/// The transactions that a port has issued for its next operation, in order, and how many acts it
+/// has made for it.
 #[derive(Drop)]
 pub struct Segment {
     port: u8,
@@ -65,22 +66,26 @@ impl Segment {
 
     /// The transactions that the port has issued for its next operation, in order.
     pub fn issued(&self) -> &[Transaction]
-        ensures { (past : Trace) (p : ℕ) → SegmentStands past p self.now → result.now ≡ segment past p }
+        ensures { (past : Trace) (p : ℕ) → SegmentStands past p self.now
+            → result.now ≡ segment past p }
     {
         &self.issued
     }
 
     /// How many acts it has made for it.
     pub fn acts(&self) -> u8
-        ensures { (past : Trace) (p : ℕ) → SegmentStands past p self.now → result ≡ acts_made past p }
+        ensures { (past : Trace) (p : ℕ) → SegmentStands past p self.now
+            → result ≡ acts_made past p }
     {
         self.acts
     }
 
     /// Adds the transaction, if it is one for an operation of the port.
     fn add(&mut self, begun: Option<Transaction>)
-        ensures issued { ((x : Transaction) → option_filter (is_for_operation self.old.port) begun ≡ Some x → length self.old.issued.items < vec_capacity self.old.issued)
-            → self.new.issued.items ≡ more self.old.issued.items (option_filter (is_for_operation self.old.port) begun) }
+        ensures issued { ((x : Transaction) → option_filter (is_for_operation self.old.port) begun
+            ≡ Some x → length self.old.issued.items < vec_capacity self.old.issued)
+            → self.new.issued.items ≡ more self.old.issued.items
+            (option_filter (is_for_operation self.old.port) begun) }
         ensures room { vec_capacity self.old.issued ≤ vec_capacity self.new.issued }
         ensures port { self.new.port ≡ self.old.port }
         ensures acts { self.new.acts ≡ self.old.acts }
@@ -94,7 +99,8 @@ impl Segment {
 
     /// Hears the next event of the trace, which has this place.
     pub fn hear(&mut self, event: &Event, place: usize)
-        ensures { (plan : Plan) (past : Trace) (p : ℕ) → IsLegal plan (event.now ∷ past) → place ≡ length past → SegmentStands past p self.old
+        ensures { (plan : Plan) (past : Trace) (p : ℕ) → IsLegal plan (event.now ∷ past)
+            → place ≡ length past → SegmentStands past p self.old
             → SegmentStands (event.now ∷ past) p self.new }
     {
         if !is_at(event, self.port) {

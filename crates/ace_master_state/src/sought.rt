@@ -103,7 +103,8 @@ fn is_write_of(kind: AwKind, addr: u32, x: &Transaction) -> bool
 impl Kept {
     /// The port's transaction is outstanding.
     fn is_outstanding(&self, x: &Transaction) -> bool
-        ensures { (plan : Plan) (past : Trace) (p : ℕ) → KeptStands plan past p self.now → x.now.port ≡ p → result ≡ is_outstanding plan.header past x.now }
+        ensures { (plan : Plan) (past : Trace) (p : ℕ) → KeptStands plan past p self.now
+            → x.now.port ≡ p → result ≡ is_outstanding plan.header past x.now }
     {
         match self.port.named(x.chan, x.id) {
             Some(y) => y.transaction.place == x.place,
@@ -113,7 +114,8 @@ impl Kept {
 
     /// The port's transaction is what is looked for.
     fn is_sought(&self, sought: Sought, x: &Transaction) -> bool
-        ensures { (plan : Plan) (past : Trace) (p : ℕ) → KeptStands plan past p self.now → x.now.port ≡ p → result ≡ is_sought plan.header past sought x.now }
+        ensures { (plan : Plan) (past : Trace) (p : ℕ) → KeptStands plan past p self.now
+            → x.now.port ≡ p → result ≡ is_sought plan.header past sought x.now }
     {
         match sought {
             Sought::OpenAct => is_act_transaction(x) && self.is_outstanding(x),
@@ -127,7 +129,8 @@ impl Kept {
 
     /// The port has issued such a transaction for its next operation.
     pub fn has(&self, sought: Sought) -> bool
-        ensures { (plan : Plan) (past : Trace) (p : ℕ) → KeptStands plan past p self.now → result ≡ list_any (is_sought plan.header past sought) (segment past p) }
+        ensures { (plan : Plan) (past : Trace) (p : ℕ) → KeptStands plan past p self.now
+            → result ≡ list_any (is_sought plan.header past sought) (segment past p) }
     {
         let mut found = false;
         for x in self.segment.issued() {

@@ -18,7 +18,8 @@ use ace_model::Snoop;
 use ace_model::kinds::read_kind;
 use ace_portck::{OnePort, is_at, issued};
 
-/// Whether the last Sync of a port has had its AC DVM Complete, and whether the port has answered it (Arm IHI 0022E, C12).
+/// Whether the last Sync of a port has had its AC DVM Complete, and whether the port has answered
+/// it (Arm IHI 0022E, C12).
 #[derive(Clone, Copy, Debug, PartialEq, Eq)]
 pub struct Syncs {
     port: u8,
@@ -32,7 +33,8 @@ pub struct Syncs {
 
 /// The word of the part of a message that the event issues.
 fn word_issued(event: &Event) -> Option<u32>
-    ensures { (n : ℕ) → result ≡ option_map (λ (x : Transaction). x.addr) (option_filter is_message_part (issued n event.now)) }
+    ensures { (n : ℕ) → result ≡ option_map (λ (x : Transaction). x.addr)
+        (option_filter is_message_part (issued n event.now)) }
 {
     let x = issued(0, event)?;
     match read_kind(&x) {
@@ -63,7 +65,8 @@ impl Syncs {
 
     /// The last Sync has had its AC DVM Complete, and the port has answered it.
     pub fn has_answered_completion(&self) -> bool
-        ensures { (past : Trace) (p : ℕ) → SyncsStand past p self.now → result ≡ has_answered_completion past p }
+        ensures { (past : Trace) (p : ℕ) → SyncsStand past p self.now
+            → result ≡ has_answered_completion past p }
     {
         self.completed && self.unanswered == 0
     }
@@ -71,7 +74,8 @@ impl Syncs {
     /// The port has this AC.
     fn complete(&mut self, addr: u32, snoop: u8)
         ensures completed { self.new.completed ≡ (is_completion snoop || self.old.completed) }
-        ensures unanswered { self.old.unanswered < 2 ^ 64 - 1 → self.new.unanswered ≡ self.old.unanswered + (if is_completion snoop then 1 else 0) }
+        ensures unanswered { self.old.unanswered < 2 ^ 64 - 1
+            → self.new.unanswered ≡ self.old.unanswered + (if is_completion snoop then 1 else 0) }
         ensures second { self.new.awaits_second ≡ self.old.awaits_second }
         ensures port { self.new.port ≡ self.old.port }
     {
@@ -84,7 +88,8 @@ impl Syncs {
 
     /// The port answers the snoop.
     fn answer(&mut self, snoop: &Snoop)
-        ensures unanswered { (n : ℕ) → self.old.unanswered ≡ (if tells_completion snoop.now then 1 else 0) + n → self.new.unanswered ≡ n }
+        ensures unanswered { (n : ℕ) → self.old.unanswered
+            ≡ (if tells_completion snoop.now then 1 else 0) + n → self.new.unanswered ≡ n }
         ensures completed { self.new.completed ≡ self.old.completed }
         ensures second { self.new.awaits_second ≡ self.old.awaits_second }
         ensures port { self.new.port ≡ self.old.port }
@@ -97,7 +102,8 @@ impl Syncs {
     /// The port issues a part of a message with this word, or none.
     fn issue(&mut self, word: Option<u32>)
         ensures second { self.new.awaits_second ≡ waits_with self.old.awaits_second word }
-        ensures completed { self.new.completed ≡ stays_complete self.old.awaits_second self.old.completed word }
+        ensures completed { self.new.completed
+            ≡ stays_complete self.old.awaits_second self.old.completed word }
         ensures unanswered { self.new.unanswered ≡ self.old.unanswered }
         ensures port { self.new.port ≡ self.old.port }
     {
@@ -110,7 +116,8 @@ impl Syncs {
 
     /// Hears the next event of the trace. `port` is what is kept of the port before it.
     pub fn hear(&mut self, port: &OnePort, event: &Event)
-        ensures { (plan : Plan) (past : Trace) (p : ℕ) → OnePortStands port.now plan.header past p → IsLegal plan (event.now ∷ past) → SyncsStand past p self.old
+        ensures { (plan : Plan) (past : Trace) (p : ℕ) → OnePortStands port.now plan.header past p
+            → IsLegal plan (event.now ∷ past) → SyncsStand past p self.old
             → SyncsStand (event.now ∷ past) p self.new }
     {
         if !is_at(event, self.port) {

@@ -220,7 +220,8 @@ fn gives_up_what_it_wrote(rt: HostRuntime) -> Result<(), Fail> {
     Ok(())
 }
 
-/// The port has loaded the line exclusively, and asked whether it may store to it; the response is this.
+/// The port has loaded the line exclusively, and asked whether it may store to it; the response is
+/// this.
 fn asks_to_store(port: &mut AcePort, resp: u8) {
     reads(port, 1, true, 9);
     hear(port, &[rk(SC), l(0, true, 1), op(0, Outcome::Ok)]);

@@ -143,7 +143,8 @@ fn cr(resp: u8, st: LineState) -> Event {
     Event::Cr { port: 0, resp, st }
 }
 
-/// One policy keeps a shared line that is snooped by a ReadClean and sends nothing, the other gives it up with its data.
+/// One policy keeps a shared line that is snooped by a ReadClean and sends nothing, the other gives
+/// it up with its data.
 fn follows_the_policy(kept: &mut Kept) -> bool {
     if !answers_nothing(kept) {
         return false;
@@ -168,7 +169,8 @@ fn answers_by_the_policy(rt: HostRuntime) -> Result<(), Fail> {
     Ok(())
 }
 
-/// A DVM Message is answered alone, and after the answer to a DVM Complete comes the OP of the Sync.
+/// A DVM Message is answered alone, and after the answer to a DVM Complete comes the OP of the
+/// Sync.
 fn answers_both_messages(kept: &mut Kept) -> bool {
     hear(kept, &[snooped(15, 0x8000)]);
     if !answers(kept, &mut Chosen::Keep, &[cr(0, I)]) {

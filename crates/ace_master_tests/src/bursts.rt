@@ -105,7 +105,8 @@ fn writes(kind: AwKind, addr: u32) -> Request {
     Request::Writes { kind, addr }
 }
 
-/// Each request takes the least identifier that is free; the parts of a message take two, and the halves of a barrier share one.
+/// Each request takes the least identifier that is free; the parts of a message take two, and the
+/// halves of a barrier share one.
 fn takes_free_identifiers(kept: &mut Kept) -> bool {
     hear(kept, &[ar(0, 64, 1), ar(2, 128, 0)]);
     let message = Request::Messages {

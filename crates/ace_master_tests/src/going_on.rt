@@ -1,4 +1,5 @@
-//! The steps by which an ACE port does whole operations: the first of its steps that is enabled, and between them what the interconnect gives.
+//! The steps by which an ACE port does whole operations: the first of its steps that is enabled,
+//! and between them what the interconnect gives.
 
 use crate::operations::{has_events, operations};
 use ace_codes::LineState::{self, I, SC, UC, UD};
@@ -124,7 +125,8 @@ const STORES: Op = Op::St {
     word: 9,
 };
 
-/// A load of a line that the port doesn't hold reads it; a store to it hits then, and ends where its line is unique.
+/// A load of a line that the port doesn't hold reads it; a store to it hits then, and ends where
+/// its line is unique.
 fn loads_and_then_stores(port: &mut AcePort) -> bool {
     if !steps(port, &[ar(64, 1, 0, false)]) || !steps(port, &[]) {
         return false;
@@ -288,7 +290,8 @@ fn loads_exclusively(port: &mut AcePort) -> bool {
     steps(port, &[rk(SC), loads, op(0, Outcome::Ok)])
 }
 
-/// An exclusive store to a line that a snoop took after the exclusive load fails, and asks for nothing.
+/// An exclusive store to a line that a snoop took after the exclusive load fails, and asks for
+/// nothing.
 fn loses_the_line(port: &mut AcePort) -> bool {
     let snoop = Event::Ac {
         port: 0,
@@ -355,7 +358,8 @@ fn writes_sixteen(port: &mut AcePort) -> bool {
     true
 }
 
-/// It waits then, until one of them is acknowledged: then it writes another under the same identifier.
+/// It waits then, until one of them is acknowledged: then it writes another under the same
+/// identifier.
 fn waits_for_an_identifier(port: &mut AcePort) -> bool {
     if !steps(port, &[]) {
         return false;

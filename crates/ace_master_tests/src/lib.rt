@@ -1,4 +1,5 @@
-//! Tests of the masters of ports. They stand in a crate of their own, so that what they test is proved once.
+//! Tests of the masters of ports. They stand in a crate of their own, so that what they test is
+//! proved once.
 #![tactic(auto)]
 
 #[cfg(test)]

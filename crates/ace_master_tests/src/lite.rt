@@ -1,4 +1,5 @@
-//! The steps of the master of an ACE-Lite port for a plan of one operation: a WriteUnique, a CleanShared and a barrier.
+//! The steps of the master of an ACE-Lite port for a plan of one operation: a WriteUnique, a
+//! CleanShared and a barrier.
 
 ghost use Rattle.std.specs.Prelude.{◌≡◌, [], true, false, IfOk};
 ghost use Rattle.ace_event.specs.declared.event.Event.TheVariants.{Ar};
@@ -43,7 +44,9 @@ fn master_for(alloc: Global, op: Op) -> Result<LiteMaster, Fail>
 fn step(master: &mut LiteMaster) -> Result<Burst, Fail>
     requires stands { (op : Op) × (past : Trace) × LiteStands master.old (plan_of op) past }
     requires port { port_of master.old ≡ 0 }
-    ensures stands { IfOk result (λ burst. (op : Op) (past : Trace) → LiteStands master.old (plan_of op) past → LiteStands master.new (plan_of op) (onto burst past)) }
+    ensures stands { IfOk result (λ burst. (op : Op) (past : Trace)
+        → LiteStands master.old (plan_of op) past
+        → LiteStands master.new (plan_of op) (onto burst past)) }
     ensures port { port_of master.new ≡ 0 }
 {
     let mut burst = Burst::empty();

@@ -1,4 +1,5 @@
--- Accepted traces, and the first break of a trace that is not: by a list of rules, and by the rules as a whole.
+-- Accepted traces, and the first break of a trace that is not: by a list of rules, and by the rules
+-- as a whole.
 use Rattle.std.specs.Prelude.{Bool, nat_le, ◌&&◌, ◌||◌, ◌==◌, if◌then◌else◌, not, is_none, ℕ, ◌+◌, ◌<◌, ◌≡◌, true, false, List, [], ◌∷◌, Option, Some, None, length, reverse, take, slice_get, ⊤}
 use Rattle.ace_event.specs.declared.event.Event.{Event}
 use Rattle.ace_event.specs.declared.header.Header.{Header}
@@ -23,10 +24,14 @@ rule n keeps = record { number = n; keeps = keeps }
 abbrev pub rules : List Rule
 rules =
     rule 1 k1 ∷ rule 2 k2 ∷ rule 3 k3 ∷ rule 4 k4 ∷ rule 5 k5 ∷ rule 6 k6 ∷ rule 7 k7 ∷ rule 8 k8
-    ∷ rule 9 k9 ∷ rule 10 k10 ∷ rule 11 k11 ∷ rule 12 k12 ∷ rule 13 k13 ∷ rule 14 k14 ∷ rule 15 k15 ∷ rule 16 k16
-    ∷ rule 17 k17 ∷ rule 18 k18 ∷ rule 19 k19 ∷ rule 20 k20 ∷ rule 21 k21 ∷ rule 22 k22 ∷ rule 23 k23 ∷ rule 24 k24
-    ∷ rule 25 k25 ∷ rule 26 k26 ∷ rule 27 k27 ∷ rule 28 k28 ∷ rule 29 k29 ∷ rule 30 k30 ∷ rule 31 k31 ∷ rule 32 k32
-    ∷ rule 33 k33 ∷ rule 34 k34 ∷ rule 35 k35 ∷ rule 36 k36 ∷ rule 37 k37 ∷ rule 38 k38 ∷ rule 39 k39 ∷ rule 40 k40 ∷ []
+    ∷ rule 9 k9 ∷ rule 10 k10 ∷ rule 11 k11 ∷ rule 12 k12 ∷ rule 13 k13
+    ∷ rule 14 k14 ∷ rule 15 k15 ∷ rule 16 k16
+    ∷ rule 17 k17 ∷ rule 18 k18 ∷ rule 19 k19 ∷ rule 20 k20 ∷ rule 21 k21
+    ∷ rule 22 k22 ∷ rule 23 k23 ∷ rule 24 k24
+    ∷ rule 25 k25 ∷ rule 26 k26 ∷ rule 27 k27 ∷ rule 28 k28 ∷ rule 29 k29
+    ∷ rule 30 k30 ∷ rule 31 k31 ∷ rule 32 k32
+    ∷ rule 33 k33 ∷ rule 34 k34 ∷ rule 35 k35 ∷ rule 36 k36 ∷ rule 37 k37
+    ∷ rule 38 k38 ∷ rule 39 k39 ∷ rule 40 k40 ∷ []
 
 -- the numbers of these rules rise, the first from n on
 abbrev pub rise_from : ℕ → List Rule → Bool
@@ -72,8 +77,8 @@ abbrev pub break_or : ℕ → Option ℕ → Option Break → Option Break
 break_or n (Some k) later = Some (record { index = n; rule = k })
 break_or n None later = later
 
--- After `past` come the events of a list, the oldest first: the first that breaks one of these rules, and the least that
--- it breaks.
+-- After `past` come the events of a list, the oldest first: the first that breaks one of these
+-- rules, and the least that it breaks.
 abbrev pub first_break_after : List Rule → Header → Trace → List Event → Option Break
 first_break_after rs h past [] = None
 first_break_after rs h past (e ∷ events) =
@@ -86,14 +91,17 @@ first_break_by rs h events = first_break_after rs h [] events
 abbrev pub first_break : Header → List Event → Option Break
 first_break h events = first_break_by rules h events
 
--- the event with n events before it, in a list with the oldest first, breaks rule k of these after those events
+-- the event with n events before it, in a list with the oldest first, breaks rule k of these after
+-- those events
 abbrev pub BreaksAt : List Rule → Header → List Event → ℕ → ℕ → Type 0
 BreaksAt rs h events n k =
-    (e : Event) × (slice_get events n ≡ Some e) × (breaks_of rs h (reverse (take n events)) e k ≡ true)
+    (e : Event) × (slice_get events n ≡ Some e)
+    × (breaks_of rs h (reverse (take n events)) e k ≡ true)
 
--- The first break of a list of events, the oldest first, by these rules: the least number, from 1, of an event that
--- breaks one of them after the events before it, and the least that it breaks.
-pub record FirstBreakBy (rs : List Rule) (h : Header) (events : List Event) (index k : ℕ) : Type 0 where
+-- The first break of a list of events, the oldest first, by these rules: the least number, from 1,
+-- of an event that breaks one of them after the events before it, and the least that it breaks.
+pub record FirstBreakBy (rs : List Rule) (h : Header) (events : List Event)
+    (index k : ℕ) : Type 0 where
   pub before : ℕ
   pub number : index ≡ before + 1
   pub broken : BreaksAt rs h events before k

@@ -1,5 +1,6 @@
--- Barriers. A barrier is a pair of address events, one on each channel: the k-th AR Barrier and the k-th AW Barrier of a port
--- (Arm IHI 0022E, C8). Its place among the port's transactions is the later of the two (our choice).
+-- Barriers. A barrier is a pair of address events, one on each channel: the k-th AR Barrier and the
+-- k-th AW Barrier of a port (Arm IHI 0022E, C8). Its place among the port's transactions is the
+-- later of the two (our choice).
 use Rattle.std.specs.Prelude.{ℕ, max, Bool, ◌&&◌, ◌||◌, ◌==◌, nat_lt, if◌then◌else◌, List, [], ◌∷◌, length, slice_get, Option}
 use Rattle.ace_event.specs.declared.event.Channel.{Channel}
 use Rattle.ace_event.specs.declared.event.Channel.TheVariants.{Read, Write}
@@ -10,7 +11,8 @@ use Rattle.ace_model.specs.Transactions.{read_kind, write_kind, same_channel, is
 use Rattle.ace_model.specs.Progress.{is_completed, is_ordered, each_issued}
 
 abbrev pub is_barrier_half : Transaction → Bool
-is_barrier_half x = is_some_and (read_kind x) is_read_barrier || is_some_and (write_kind x) is_write_barrier
+is_barrier_half x =
+    is_some_and (read_kind x) is_read_barrier || is_some_and (write_kind x) is_write_barrier
 
 abbrev pub is_barrier_of : Transaction → ℕ → Channel → Bool
 is_barrier_of x p c = is_barrier_half x && (x.port == p) && same_channel x.chan c
@@ -65,8 +67,8 @@ is_synchronisation b = b.read.bar == 3
 abbrev pub is_before : Transaction → ℕ → Pair → Bool
 is_before x p b = (x.port == p) && is_line x && (x.bar == 0) && nat_lt x.place (place_of b)
 
--- what the barrier has to wait for of such a transaction: its order point, and that it is complete if the barrier is a
--- synchronisation barrier
+-- what the barrier has to wait for of such a transaction: its order point, and that it is complete
+-- if the barrier is a synchronisation barrier
 abbrev pub is_awaited : Trace → Pair → Transaction → Bool
 is_awaited past b x = if is_synchronisation b then is_completed past x else is_ordered past x
 

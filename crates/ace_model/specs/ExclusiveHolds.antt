@@ -22,7 +22,8 @@ has_exclusive_load past p = list_any (λ e. is_exclusive_load e p) past
 -- since the port's last exclusive load no other port stored to the line
 abbrev pub is_undisturbed : Trace → ℕ → ℕ → Bool
 is_undisturbed [] p l = true
-is_undisturbed (e ∷ past) p l = is_exclusive_load e p || (not (disturbs past e p l) && is_undisturbed past p l)
+is_undisturbed (e ∷ past) p l =
+    is_exclusive_load e p || (not (disturbs past e p l) && is_undisturbed past p l)
 
 -- Between a D with x 1 and its port's last L with x 1 before it no other port stored to the line.
 abbrev pub ExclusiveHolds : Trace → Type 0

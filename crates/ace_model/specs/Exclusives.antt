@@ -1,4 +1,5 @@
--- Exclusive transactions and the monitor of the interconnect, kept by port and line (Arm IHI 0022E, C9).
+-- Exclusive transactions and the monitor of the interconnect, kept by port and line (Arm IHI 0022E,
+-- C9).
 use Rattle.std.specs.Prelude.{ℕ, Bool, false, not, ◌&&◌, ◌||◌, ◌==◌, if◌then◌else◌, [], ◌∷◌, Option, None, length, option_map}
 use Rattle.ace_event.specs.declared.event.Channel.TheVariants.{Read}
 use Rattle.ace_event.specs.declared.event.Event.{Event}
@@ -11,23 +12,29 @@ use Rattle.ace_model.specs.Grants.{given}
 abbrev pub exclusive_given : Trace → Event → ℕ → Option Transaction
 exclusive_given past e l = option_filter (λ x. x.lock && is_on x l) (given past e)
 
--- The port is registered for the line: from the G of its own exclusive load or store until an exclusive store of another port
--- passes. A store passes where its own port is registered; that it registers its port where it fails is our choice.
+-- The port is registered for the line: from the G of its own exclusive load or store until an
+-- exclusive store of another port passes. A store passes where its own port is registered; that it
+-- registers its port where it fails is our choice.
 abbrev pub is_registered : Trace → ℕ → ℕ → Bool
 is_registered [] p l = false
 is_registered (e ∷ past) p l =
     is_some_and (exclusive_given past e l) (λ x. x.port == p)
-    || (not (is_some_and (exclusive_given past e l) (λ x. is_exclusive_store x && is_registered past x.port l)) && is_registered past p l)
+    || (not (is_some_and (exclusive_given past e l) (λ x. is_exclusive_store x
+    && is_registered past x.port l)) && is_registered past p l)
 
 -- the exclusive store passes, if its G is next
 abbrev pub store_passes : Trace → Transaction → Bool
 store_passes past x = is_registered past x.port x.addr
 
--- what the event says of the port's exclusive store under the identifier: it passes or fails at its G
+-- what the event says of the port's exclusive store under the identifier: it passes or fails at its
+-- G
 abbrev pub store_result : Trace → Option Transaction → ℕ → ℕ → Option Bool
-store_result past o p i = option_map (store_passes past) (option_filter (λ x. has_name x p Read i && is_exclusive_store x) o)
+store_result past o p i =
+    option_map (store_passes past) (option_filter (λ x. has_name x p Read i
+    && is_exclusive_store x) o)
 
--- whether the port's last read under the identifier, where it is an exclusive store that had its G, passed
+-- whether the port's last read under the identifier, where it is an exclusive store that had its G,
+-- passed
 abbrev pub passed_at_grant : Trace → ℕ → ℕ → Option Bool
 passed_at_grant [] p i = None
 passed_at_grant (e ∷ past) p i =
@@ -40,4 +47,5 @@ has_failed past x = is_exclusive_store x && is_some_and (passed_at_grant past x.
 
 -- it is an exclusive store that passed
 abbrev pub has_passed : Trace → Transaction → Bool
-has_passed past x = is_exclusive_store x && is_some_and (passed_at_grant past x.port x.id) (λ passed. passed)
+has_passed past x =
+    is_exclusive_store x && is_some_and (passed_at_grant past x.port x.id) (λ passed. passed)

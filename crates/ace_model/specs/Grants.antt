@@ -1,5 +1,6 @@
--- Grants: the interconnect gives a line to one transaction at a time, snoops under this grant, and answers the
--- transaction once its snoops are done. That every answer comes before the first transfer is our choice.
+-- Grants: the interconnect gives a line to one transaction at a time, snoops under this grant, and
+-- answers the transaction once its snoops are done. That every answer comes before the first
+-- transfer is our choice.
 use Rattle.std.specs.Prelude.{ℕ, zero, suc, ◌+◌, ◌*◌, Bool, false, not, ◌&&◌, ◌||◌, ◌==◌, nat_le, if◌then◌else◌, List, [], ◌∷◌, find, Option, Some, None, length, is_some, is_none}
 use Rattle.std.specs.List.{list_any}
 use Rattle.ace_event.specs.declared.header.Header.{Header}
@@ -43,7 +44,8 @@ has_grant past p c i = has_since (λ before e. is_named (given before e)) past p
 -- it has had its first R or, if it is a write, its M
 abbrev pub is_begun : Trace → Transaction → Bool
 is_begun past x =
-    if is_read x.chan then not (transfers past x.port x.id == 0) else has_memory_write past x.port x.chan x.id
+    if is_read x.chan then not (transfers past x.port x.id == 0)
+    else has_memory_write past x.port x.chan x.id
 
 -- how many events came before the present grant of the line, the last G on it among them
 abbrev pub grant_place : Trace → ℕ → ℕ
@@ -58,11 +60,13 @@ is_snoop_to _ p l = false
 -- the port was snooped under the present grant of the line
 abbrev pub was_snooped : Trace → ℕ → ℕ → Bool
 was_snooped [] p l = false
-was_snooped (e ∷ past) p l = if gives_line past e l then false else is_snoop_to e p l || was_snooped past p l
+was_snooped (e ∷ past) p l =
+    if gives_line past e l then false else is_snoop_to e p l || was_snooped past p l
 
 -- the port's next CR answers a snoop under the present grant of the line
 abbrev pub answers_grant : Trace → ℕ → ℕ → Bool
-answers_grant past p l = is_some_and (answered past p) (λ s. is_snoop_on s l && nat_le (grant_place past l) s.place)
+answers_grant past p l =
+    is_some_and (answered past p) (λ s. is_snoop_on s l && nat_le (grant_place past l) s.place)
 
 -- the port's answer under the present grant of the line, which the event is
 abbrev pub answer_at : Trace → Event → ℕ → ℕ → Option Answer
@@ -75,7 +79,8 @@ answer_at past _ p l = None
 -- the port's answer under the present grant of the line; it is snooped once under a grant
 abbrev pub answer_of : Trace → ℕ → ℕ → Option Answer
 answer_of [] p l = None
-answer_of (e ∷ past) p l = if gives_line past e l then None else newer (answer_at past e p l) (answer_of past p l)
+answer_of (e ∷ past) p l =
+    if gives_line past e l then None else newer (answer_at past e p l) (answer_of past p l)
 
 -- the answer announces data, and their CD burst isn't whole
 abbrev pub is_short : Trace → ℕ → Answer → Bool
@@ -110,11 +115,14 @@ has_sharer h past l = list_any (shares past l) (ports_below h.ports)
 abbrev pub passer : Header → Trace → ℕ → Option ℕ
 passer h past l = find (passes past l) (ports_below h.ports)
 
--- the granted transaction has passed data: they are there until its M, or until it is no longer outstanding
+-- the granted transaction has passed data: they are there until its M, or until it is no longer
+-- outstanding
 abbrev pub has_passed_data : Header → Trace → Transaction → Bool
 has_passed_data h past x =
-    is_granted h past x && is_some (passer h past x.addr) && not (has_memory_write past x.port x.chan x.id)
+    is_granted h past x && is_some (passer h past x.addr)
+    && not (has_memory_write past x.port x.chan x.id)
 
 -- and their CD burst is whole
 abbrev pub are_passed_data_whole : Header → Trace → Transaction → Bool
-are_passed_data_whole h past x = is_some_and (passer h past x.addr) (λ p. not (owes_data past p x.addr))
+are_passed_data_whole h past x =
+    is_some_and (passer h past x.addr) (λ p. not (owes_data past p x.addr))

@@ -1,7 +1,8 @@
--- DVM messages (Arm IHI 0022E, C12). A message has one part or two, each an AR DVM Message; the first part says whether a
--- second follows, and the message is issued with its last part. The interconnect forwards the messages of the other ports to
--- each ACE port, in the order in which they are issued, each part by an AC DVM Message. A Sync asks every port to say, by a
--- DVM Complete of its own, that it has done what came before.
+-- DVM messages (Arm IHI 0022E, C12). A message has one part or two, each an AR DVM Message; the
+-- first part says whether a second follows, and the message is issued with its last part. The
+-- interconnect forwards the messages of the other ports to each ACE port, in the order in which
+-- they are issued, each part by an AC DVM Message. A Sync asks every port to say, by a DVM Complete
+-- of its own, that it has done what came before.
 use Rattle.std.specs.Prelude.{ℕ, ◌+◌, ◌/◌, ◌%◌, Bool, true, false, not, ◌&&◌, ◌||◌, ◌==◌, if◌then◌else◌, List, [], ◌∷◌, ◌++◌, length, take, slice_get, Option, Some, None, is_some}
 use Rattle.std.specs.Int.{bit_at}
 use Rattle.std.specs.List.{count_by, flat_map, list_any}
@@ -55,10 +56,12 @@ is_sync_word word = is_some_and (operation_of word) is_sync_operation
 abbrev pub has_second : ℕ → Bool
 has_second word = bit_at word 0 == 1
 
--- the word is one of a first part: bit 15 is 1 exactly for a Sync, and no second part follows a Sync (our choice)
+-- the word is one of a first part: bit 15 is 1 exactly for a Sync, and no second part follows a
+-- Sync (our choice)
 abbrev pub is_message_word : ℕ → Bool
 is_message_word word =
-    is_some (operation_of word) && same_test (bit_at word 15 == 1) (is_sync_word word) && not (is_sync_word word && has_second word)
+    is_some (operation_of word) && same_test (bit_at word 15 == 1) (is_sync_word word)
+    && not (is_sync_word word && has_second word)
 
 -- a part of a message: an AR DVM Message
 abbrev pub is_message_part : Transaction → Bool
@@ -71,7 +74,8 @@ is_dvm_completion x = is_some_and (read_kind x) is_dvm_complete
 abbrev pub part_in : Option Transaction → ℕ → Option Transaction
 part_in o p = option_filter (λ x. is_message_part x && (x.port == p)) o
 
--- the first part that waits for its second once this part is issued, which is the second of the one that waits, or a first one
+-- the first part that waits for its second once this part is issued, which is the second of the one
+-- that waits, or a first one
 abbrev pub waits_after : Option Transaction → Option Transaction → Option Transaction
 waits_after waiting None = waiting
 waits_after (Some first) (Some x) = None
@@ -98,9 +102,11 @@ parts_with None x = if has_second x.addr then [] else x ∷ []
 -- the parts of the message of another port than p, where the event issues one
 abbrev pub parts_in : Trace → Option Transaction → ℕ → List Transaction
 parts_in past None p = []
-parts_in past (Some x) p = if is_message_part x && not (x.port == p) then parts_with (first_waiting past x.port) x else []
+parts_in past (Some x) p =
+    if is_message_part x && not (x.port == p) then parts_with (first_waiting past x.port) x else []
 
--- the parts that are forwarded to the port: those of the messages of the other ports, in the order in which these are issued
+-- the parts that are forwarded to the port: those of the messages of the other ports, in the order
+-- in which these are issued
 abbrev pub parts_for : Trace → ℕ → List Transaction
 parts_for [] p = []
 parts_for (e ∷ past) p = parts_for past p ++ parts_in past (issued (length past) e) p
@@ -116,9 +122,11 @@ next_after past p done = slice_get (parts_for past p) (length (parts_among done)
 -- the part that a snoop forwards: an AC DVM Message forwards the next one, if it has its address
 abbrev pub forwards : Option Transaction → Snoop → Option Transaction
 forwards None s = None
-forwards (Some x) s = if is_some_and (ac_kind_of s.snoop) is_message_snoop && (x.addr == s.addr) then Some x else None
+forwards (Some x) s =
+    if is_some_and (ac_kind_of s.snoop) is_message_snoop && (x.addr == s.addr) then Some x else None
 
-abbrev pub add_forwarded : Trace → ℕ → List (Option Transaction) → Option Snoop → List (Option Transaction)
+abbrev pub add_forwarded : Trace → ℕ → List (Option Transaction)
+    → Option Snoop → List (Option Transaction)
 add_forwarded past p done None = done
 add_forwarded past p done (Some s) = done ++ forwards (next_after past p done) s ∷ []
 
@@ -173,7 +181,8 @@ completes_sync _ p = false
 abbrev pub is_sync_completed : Trace → ℕ → Bool
 is_sync_completed [] p = false
 is_sync_completed (e ∷ past) p =
-    completes_sync e p || (not (is_some (sync_in past (issued (length past) e) p)) && is_sync_completed past p)
+    completes_sync e p || (not (is_some (sync_in past (issued (length past) e) p))
+    && is_sync_completed past p)
 
 -- an ACE port other than p
 abbrev pub is_other_ace : Header → ℕ → ℕ → Bool

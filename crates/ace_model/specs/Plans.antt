@@ -14,7 +14,8 @@ use Rattle.ace_model.specs.Transactions.{is_ace}
 use Rattle.ace_model.specs.AddressRules.{is_aligned}
 use Rattle.ace_model.specs.Messages.{is_message_word, is_sync_word, has_second}
 
--- a header, the number of lines that each cache holds, how snoops are answered, and the operations, in order
+-- a header, the number of lines that each cache holds, how snoops are answered, and the operations,
+-- in order
 pub record Plan : Type 0 where
   pub header : Header
   pub ways : ℕ
@@ -92,8 +93,9 @@ is_whole_sync_word word = is_message_word word && is_sync_word word
 abbrev pub is_first_word : ℕ → Bool
 is_first_word word = is_message_word word && has_second word
 
--- Its fields other than the address are in their ranges: the word of a load or a store is one of the four, a read ahead brings
--- the line into the cache, and the DVM words are those of such a message.
+-- Its fields other than the address are in their ranges: the word of a load or a store is one of
+-- the four, a read ahead brings the line into the cache, and the DVM words are those of such a
+-- message.
 abbrev pub has_right_fields : Op → Bool
 has_right_fields (Ld a w) = is_word_number w
 has_right_fields (Ldx a w) = is_word_number w
@@ -112,14 +114,18 @@ is_in_range op = is_none_or (line_named op) is_aligned && has_right_fields op
 -- The two operations don't name one line once with and once without a snoop.
 abbrev pub is_of_one_class : Op → Op → Bool
 is_of_one_class op other =
-    is_none_or (line_named op) (λ a. implies (is_some_and (line_named other) (λ b. b == a)) (same_test (wants_no_snoop op) (wants_no_snoop other)))
+    is_none_or (line_named op) (λ a. implies (is_some_and (line_named other) (λ b. b == a))
+    (same_test (wants_no_snoop op) (wants_no_snoop other)))
 
--- After these operations, the kind of port can do the operation, and none of them named its line in the other class.
+-- After these operations, the kind of port can do the operation, and none of them named its line in
+-- the other class.
 abbrev pub is_allowed : Header → List PlanOp → PlanOp → Bool
 is_allowed h before o =
-    implies (not (is_ace h o.port)) (is_lite_operation o.op) && list_all (λ other. is_of_one_class o.op other.op) before
+    implies (not (is_ace h o.port)) (is_lite_operation o.op)
+    && list_all (λ other. is_of_one_class o.op other.op) before
 
--- Such an operation can stand after these: the header has its port, its fields are in range, and it is allowed.
+-- Such an operation can stand after these: the header has its port, its fields are in range, and it
+-- is allowed.
 pub record IsRightAfter (h : Header) (before : List PlanOp) (o : PlanOp) : Type 0 where
   pub port : nat_lt o.port h.ports ≡ true
   pub range : is_in_range o.op ≡ true
@@ -128,7 +134,8 @@ pub record IsRightAfter (h : Header) (before : List PlanOp) (o : PlanOp) : Type 
 -- each of the operations can stand after those before it
 abbrev pub AreRightAfter : Header → List PlanOp → List PlanOp → Type 0
 AreRightAfter h before [] = Unit {0}
-AreRightAfter h before (o ∷ rest) = IsRightAfter h before o × AreRightAfter h (before ++ o ∷ []) rest
+AreRightAfter h before (o ∷ rest) =
+    IsRightAfter h before o × AreRightAfter h (before ++ o ∷ []) rest
 
 -- A plan that a script can have.
 pub record IsRight (plan : Plan) : Type 0 where

@@ -1,5 +1,5 @@
--- How far any transaction has come. `is_complete`, `has_grant` and `has_memory_write` tell it of the last one under an
--- identifier, which is the one that an event names.
+-- How far any transaction has come. `is_complete`, `has_grant` and `has_memory_write` tell it of
+-- the last one under an identifier, which is the one that an event names.
 use Rattle.std.specs.Prelude.{ℕ, ◌≡◌, Bool, true, false, not, ◌&&◌, ◌||◌, ◌==◌, if◌then◌else◌, List, [], ◌∷◌, length, slice_get, Option, Some, None}
 use Rattle.ace_event.specs.declared.event.Channel.TheVariants.{Read, Write}
 use Rattle.ace_event.specs.declared.event.Event.{Event}
@@ -57,10 +57,12 @@ updates_memory x = is_some_and (write_kind x) is_update
 abbrev pub evicts : Transaction → Bool
 evicts x = is_some_and (write_kind x) is_evict
 
--- it has had its order point: its M if it is a memory update, else its G; an Evict has none to wait for
+-- it has had its order point: its M if it is a memory update, else its G; an Evict has none to wait
+-- for
 abbrev pub is_ordered : Trace → Transaction → Bool
 is_ordered past x =
-    evicts x || (if updates_memory x then has_had is_write_of_memory past x else has_had is_grant past x)
+    evicts x || (if updates_memory x then has_had is_write_of_memory past x
+    else has_had is_grant past x)
 
 -- the test holds of every transaction of the trace
 abbrev pub each_issued : Trace → (Transaction → Bool) → Bool
@@ -68,7 +70,8 @@ each_issued past test = not (some_issued past (λ x. not (test x)))
 
 -- a memory update of the port on the line is outstanding
 abbrev pub is_update_on : Header → Trace → ℕ → ℕ → Transaction → Bool
-is_update_on h past p l x = (x.port == p) && updates_memory x && is_on x l && is_outstanding h past x
+is_update_on h past p l x =
+    (x.port == p) && updates_memory x && is_on x l && is_outstanding h past x
 
 abbrev pub has_update : Header → Trace → ℕ → ℕ → Bool
 has_update h past p l = some_issued past (is_update_on h past p l)

@@ -1,5 +1,6 @@
--- The snoops of a port. Its CR events answer its AC events in their order, and its CD events belong to its answers with
--- DataTransfer in their order, four beats to each (Arm IHI 0022E, C3.6 to C3.8).
+-- The snoops of a port. Its CR events answer its AC events in their order, and its CD events belong
+-- to its answers with DataTransfer in their order, four beats to each (Arm IHI 0022E, C3.6 to
+-- C3.8).
 use Rattle.std.specs.Prelude.{ℕ, ◌+◌, Bool, ◌&&◌, ◌==◌, if◌then◌else◌, List, [], ◌∷◌, Option, Some, None, length, slice_get}
 use Rattle.ace_event.specs.declared.event.Event.{Event}
 use Rattle.ace_event.specs.declared.event.Event.TheVariants.{Ac, Cr, Cd}
@@ -11,7 +12,8 @@ use Rattle.ace_codes.specs.Responses.{transfers_data}
 
 -- the snoop of the port that the event is, where so many events came before it
 abbrev pub snoop_at : ℕ → Event → ℕ → Option Snoop
-snoop_at place (Ac q addr snoop) p = if p == q then Some (record { place = place; addr = addr; snoop = snoop }) else None
+snoop_at place (Ac q addr snoop) p =
+    if p == q then Some (record { place = place; addr = addr; snoop = snoop }) else None
 snoop_at place _ p = None
 
 -- the port's snoops, in order
@@ -44,7 +46,8 @@ answers_line past p l = is_some_and (answered past p) (λ s. is_snoop_on s l)
 -- how many of the port's answers have DataTransfer
 abbrev pub data_answers : Trace → ℕ → ℕ
 data_answers [] p = 0
-data_answers (Cr q resp st ∷ past) p = if (p == q) && transfers_data resp then data_answers past p + 1 else data_answers past p
+data_answers (Cr q resp st ∷ past) p =
+    if (p == q) && transfers_data resp then data_answers past p + 1 else data_answers past p
 data_answers (_ ∷ past) p = data_answers past p
 
 -- how many CD events the port has

@@ -15,22 +15,27 @@ use Rattle.ace_model.specs.Snoops.{answers_line}
 use Rattle.ace_model.specs.Grants.{was_snooped, owes_answer, owes_data, ports_below}
 use Rattle.ace_model.specs.Exclusives.{has_failed}
 
--- a MakeUnique of the port on the line that is outstanding and complete: the next D of the line belongs to it
+-- a MakeUnique of the port on the line that is outstanding and complete: the next D of the line
+-- belongs to it
 abbrev pub awaits_store : Header → Trace → ℕ → ℕ → Transaction → Bool
 awaits_store h past p l x =
-    (x.port == p) && is_make_unique_on x l && is_outstanding h past x && is_complete past x.port x.chan x.id
+    (x.port == p) && is_make_unique_on x l && is_outstanding h past x
+    && is_complete past x.port x.chan x.id
 
 abbrev pub is_in_make_unique : Header → Trace → ℕ → ℕ → Bool
 is_in_make_unique h past p l = some_issued past (awaits_store h past p l)
 
--- the state of the line in which the event leaves the port, if it names one: RK, WK, CR and S name it, and a D outside
--- a MakeUnique makes the line UniqueDirty
+-- the state of the line in which the event leaves the port, if it names one: RK, WK, CR and S name
+-- it, and a D outside a MakeUnique makes the line UniqueDirty
 abbrev pub left_by : Header → Trace → Event → ℕ → ℕ → Option LineState
-left_by h past (Rk q st) p l = if (p == q) && is_some_on (acknowledged past p Read) l then Some st else None
-left_by h past (Wk q st) p l = if (p == q) && is_some_on (acknowledged past p Write) l then Some st else None
+left_by h past (Rk q st) p l =
+    if (p == q) && is_some_on (acknowledged past p Read) l then Some st else None
+left_by h past (Wk q st) p l =
+    if (p == q) && is_some_on (acknowledged past p Write) l then Some st else None
 left_by h past (Cr q resp st) p l = if (p == q) && answers_line past p l then Some st else None
 left_by h past (S q addr st) p l = if (p == q) && (l == addr) then Some st else None
-left_by h past (D q addr strobe x line) p l = if (p == q) && (l == addr) && not (is_in_make_unique h past p l) then Some UD else None
+left_by h past (D q addr strobe x line) p l =
+    if (p == q) && (l == addr) && not (is_in_make_unique h past p l) then Some UD else None
 left_by h past _ p l = None
 
 -- the state of the line at the port
@@ -50,20 +55,24 @@ has_store h past p i = has_since (λ before e q c j. is_store_of h before e q j)
 
 -- the port has a write of the line with B and without WK
 abbrev pub awaits_wack : Header → Trace → ℕ → ℕ → Transaction → Bool
-awaits_wack h past p l x = is_outstanding_on h past p l x && not (is_read x.chan) && is_complete past x.port x.chan x.id
+awaits_wack h past p l x =
+    is_outstanding_on h past p l x && not (is_read x.chan) && is_complete past x.port x.chan x.id
 
 abbrev pub owes_wack : Header → Trace → ℕ → ℕ → Bool
 owes_wack h past p l = some_issued past (awaits_wack h past p l)
 
--- under the grant of x on the line port q owes no answer and no data, and it was snooped if it is another ACE port that
--- holds the line
+-- under the grant of x on the line port q owes no answer and no data, and it was snooped if it is
+-- another ACE port that holds the line
 abbrev pub is_port_done : Header → Trace → Transaction → ℕ → Bool
 is_port_done h past x q =
     not (owes_answer past q x.addr) && not (owes_data past q x.addr)
-    && ((q == x.port) || not (is_ace h q) || is_invalid (state_of h past q x.addr) || was_snooped past q x.addr)
+    && ((q == x.port) || not (is_ace h q) || is_invalid (state_of h past q x.addr)
+    || was_snooped past q x.addr)
 
--- the snoops of a granted transaction are done: it causes none, or it is an exclusive store that failed, or under its
--- grant every snoop is answered, announced data are whole, and each other ACE port that holds the line was snooped
+-- the snoops of a granted transaction are done: it causes none, or it is an exclusive store that
+-- failed, or under its grant every snoop is answered, announced data are whole, and each other ACE
+-- port that holds the line was snooped
 abbrev pub are_snoops_done : Header → Trace → Transaction → Bool
 are_snoops_done h past x =
-    is_none (snoop_of x) || has_failed past x || list_all (is_port_done h past x) (ports_below h.ports)
+    is_none (snoop_of x) || has_failed past x
+    || list_all (is_port_done h past x) (ports_below h.ports)

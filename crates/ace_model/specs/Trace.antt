@@ -1,4 +1,5 @@
--- A trace as definitions see it: the newest event first. `e ∷ past` is the trace `past` and then the event `e`.
+-- A trace as definitions see it: the newest event first. `e ∷ past` is the trace `past` and then
+-- the event `e`.
 use Rattle.std.specs.Prelude.{ℕ, ◌-◌, Bool, true, false, not, ◌||◌, if◌then◌else◌, List, [], ◌∷◌, ◌++◌, reverse, length, drop, slice_get, Option, Some, None}
 use Rattle.ace_event.specs.declared.event.Event.{Event}
 use Rattle.ace_event.specs.declared.event.Event.TheVariants.{L, Op, Ar, R, Rk, Aw, W, B, Wk, Ac, Cr, Cd, G, M, S, D, Mem}

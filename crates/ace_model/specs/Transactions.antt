@@ -1,5 +1,5 @@
--- The transactions of a trace. One is issued by an AR or AW; R and B belong to it by port, channel and identifier, RK
--- and WK by the order of completion (Arm IHI 0022E, A5.3, C3.3 and C3.5).
+-- The transactions of a trace. One is issued by an AR or AW; R and B belong to it by port, channel
+-- and identifier, RK and WK by the order of completion (Arm IHI 0022E, A5.3, C3.3 and C3.5).
 use Rattle.std.specs.Prelude.{ℕ, ◌+◌, Bool, true, false, not, ◌&&◌, ◌||◌, ◌==◌, if◌then◌else◌, List, [], ◌∷◌, Option, Some, None, length, slice_get, nat_lt}
 use Rattle.std.specs.Int.{bit_at}
 use Rattle.ace_codes.specs.declared.kind.ArKind.{ArKind}
@@ -60,7 +60,8 @@ is_some_on o l = is_some_and o (λ x. is_on x l)
 
 -- it is of a kind that is granted its line: a line transaction but a memory update or Evict
 abbrev pub takes_grant : Transaction → Bool
-takes_grant x = is_some_and (read_kind x) is_line_read || is_some_and (write_kind x) is_granted_write
+takes_grant x =
+    is_some_and (read_kind x) is_line_read || is_some_and (write_kind x) is_granted_write
 
 -- the line snoop that the kind causes
 abbrev pub snoop_kind_of : Option ArKind → Option AwKind → Option SnoopKind
@@ -88,16 +89,19 @@ issued place (Aw p i addr snoop dom bar) =
 issued place _ = None
 
 -- the first one, where it has the name, else the older one
-abbrev pub newest_named : Option Transaction → ℕ → Channel → ℕ → Option Transaction → Option Transaction
+abbrev pub newest_named : Option Transaction → ℕ → Channel → ℕ
+    → Option Transaction → Option Transaction
 newest_named None p c i older = older
 newest_named (Some x) p c i older = if has_name x p c i then Some x else older
 
 -- the transaction that the port issued last on the channel under the identifier
 abbrev pub transaction_of : Trace → ℕ → Channel → ℕ → Option Transaction
 transaction_of [] p c i = None
-transaction_of (e ∷ past) p c i = newest_named (issued (length past) e) p c i (transaction_of past p c i)
+transaction_of (e ∷ past) p c i =
+    newest_named (issued (length past) e) p c i (transaction_of past p c i)
 
--- the identifier of the port's transaction on the channel that the event completes: its last R, or its B
+-- the identifier of the port's transaction on the channel that the event completes: its last R, or
+-- its B
 abbrev pub completes : Event → ℕ → Channel → Option ℕ
 completes (R q j resp last word) p c = if is_read c && (p == q) && last then Some j else None
 completes (B q j resp) p c = if not (is_read c) && (p == q) then Some j else None
@@ -111,12 +115,14 @@ completed (e ∷ past) p c = more (completed past p c) (completes e p c)
 -- how many RK events the port has, or WK events for the write channel
 abbrev pub acknowledgements : Trace → ℕ → Channel → ℕ
 acknowledgements [] p c = 0
-acknowledgements (Rk q st ∷ past) p c = if is_read c && (p == q) then acknowledgements past p c + 1 else acknowledgements past p c
-acknowledgements (Wk q st ∷ past) p c = if not (is_read c) && (p == q) then acknowledgements past p c + 1 else acknowledgements past p c
+acknowledgements (Rk q st ∷ past) p c =
+    if is_read c && (p == q) then acknowledgements past p c + 1 else acknowledgements past p c
+acknowledgements (Wk q st ∷ past) p c =
+    if not (is_read c) && (p == q) then acknowledgements past p c + 1 else acknowledgements past p c
 acknowledgements (_ ∷ past) p c = acknowledgements past p c
 
--- the identifier of the complete transaction that the port's next RK or WK belongs to: the k-th acknowledge belongs to
--- the k-th complete transaction
+-- the identifier of the complete transaction that the port's next RK or WK belongs to: the k-th
+-- acknowledge belongs to the k-th complete transaction
 abbrev pub next_complete : Trace → ℕ → Channel → Option ℕ
 next_complete past p c = slice_get (completed past p c) (acknowledgements past p c)
 
@@ -128,12 +134,13 @@ transaction_under past p c (Some i) = transaction_of past p c i
 abbrev pub acknowledged : Trace → ℕ → Channel → Option Transaction
 acknowledged past p c = transaction_under past p c (next_complete past p c)
 
--- the transaction that is no longer outstanding from the event on: at an ACE port by its RK or WK, at an ACE-Lite port
--- by its last R or its B
+-- the transaction that is no longer outstanding from the event on: at an ACE port by its RK or WK,
+-- at an ACE-Lite port by its last R or its B
 abbrev pub ended : Header → Trace → Event → Option Transaction
 ended h past (Rk p st) = acknowledged past p Read
 ended h past (Wk p st) = acknowledged past p Write
-ended h past (R p i resp last word) = if last && not (is_ace h p) then transaction_of past p Read i else None
+ended h past (R p i resp last word) =
+    if last && not (is_ace h p) then transaction_of past p Read i else None
 ended h past (B p i resp) = if is_ace h p then None else transaction_of past p Write i
 ended h past _ = None
 
@@ -147,7 +154,8 @@ without (Some y) (Some x) = if x.place == y.place then None else Some x
 abbrev pub outstanding : Header → Trace → ℕ → Channel → ℕ → Option Transaction
 outstanding h [] p c i = None
 outstanding h (e ∷ past) p c i =
-    newest_named (issued (length past) e) p c i (without (ended h past e) (outstanding h past p c i))
+    newest_named (issued (length past) e) p c i
+    (without (ended h past e) (outstanding h past p c i))
 
 abbrev pub is_outstanding : Header → Trace → Transaction → Bool
 is_outstanding h past x = is_transaction (outstanding h past x.port x.chan x.id) x
@@ -155,7 +163,8 @@ is_outstanding h past x = is_transaction (outstanding h past x.port x.chan x.id)
 -- the transactions of the trace that pass the test, in order
 abbrev pub issued_where : Trace → (Transaction → Bool) → List Transaction
 issued_where [] test = []
-issued_where (e ∷ past) test = more (issued_where past test) (option_filter test (issued (length past) e))
+issued_where (e ∷ past) test =
+    more (issued_where past test) (option_filter test (issued (length past) e))
 
 -- a transaction of the trace passes the test
 abbrev pub some_issued : Trace → (Transaction → Bool) → Bool
@@ -173,22 +182,28 @@ has_outstanding_on h past p l = some_issued past (is_outstanding_on h past p l)
 -- how many transfers the port has had under the identifier since its last AR with it
 abbrev pub transfers : Trace → ℕ → ℕ → ℕ
 transfers [] p i = 0
-transfers (Ar q j addr snoop dom bar lock ∷ past) p i = if (p == q) && (i == j) then 0 else transfers past p i
-transfers (R q j resp last word ∷ past) p i = if (p == q) && (i == j) then transfers past p i + 1 else transfers past p i
+transfers (Ar q j addr snoop dom bar lock ∷ past) p i =
+    if (p == q) && (i == j) then 0 else transfers past p i
+transfers (R q j resp last word ∷ past) p i =
+    if (p == q) && (i == j) then transfers past p i + 1 else transfers past p i
 transfers (_ ∷ past) p i = transfers past p i
 
 -- the response of the first of these transfers
 abbrev pub first_resp : Trace → ℕ → ℕ → Option ℕ
 first_resp [] p i = None
-first_resp (Ar q j addr snoop dom bar lock ∷ past) p i = if (p == q) && (i == j) then None else first_resp past p i
+first_resp (Ar q j addr snoop dom bar lock ∷ past) p i =
+    if (p == q) && (i == j) then None else first_resp past p i
 first_resp (R q j resp last word ∷ past) p i =
     if (p == q) && (i == j) && (transfers past p i == 0) then Some resp else first_resp past p i
 first_resp (_ ∷ past) p i = first_resp past p i
 
--- an event of which the test holds came after the port's last transaction on the channel under the identifier was issued
+-- an event of which the test holds came after the port's last transaction on the channel under the
+-- identifier was issued
 abbrev pub has_since : (Trace → Event → ℕ → Channel → ℕ → Bool) → Trace → ℕ → Channel → ℕ → Bool
 has_since test [] p c i = false
-has_since test (e ∷ past) p c i = test past e p c i || (not (is_named (issued (length past) e) p c i) && has_since test past p c i)
+has_since test (e ∷ past) p c i =
+    test past e p c i || (not (is_named (issued (length past) e) p c i)
+    && has_since test past p c i)
 
 -- the event completes the port's transaction on the channel under the identifier
 abbrev pub is_completion : Event → ℕ → Channel → ℕ → Bool

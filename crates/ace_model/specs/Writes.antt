@@ -1,5 +1,5 @@
--- Write data. W has no identifier: the beats of a port belong to its writes with data in the order of their AW, four
--- beats to each (Arm IHI 0022E, A5.3).
+-- Write data. W has no identifier: the beats of a port belong to its writes with data in the order
+-- of their AW, four beats to each (Arm IHI 0022E, A5.3).
 use Rattle.std.specs.Prelude.{ℕ, ◌*◌, ◌/◌, ◌%◌, Bool, false, ◌&&◌, ◌==◌, nat_lt, if◌then◌else◌, List, [], ◌∷◌, Option, Some, None, length, take, drop, slice_get}
 use Rattle.ace_event.specs.declared.event.Channel.{Channel}
 use Rattle.ace_event.specs.declared.event.Event.{Event}
@@ -22,10 +22,12 @@ pub record Beat : Type 0 where
   pub strobe : ℕ
   pub word : ℕ
 
--- the port's beat with the event, where it has a write for it, after these beats of these writes with data
+-- the port's beat with the event, where it has a write for it, after these beats of these writes
+-- with data
 abbrev pub beat_at : List Beat → List Transaction → Event → ℕ → Option Beat
 beat_at before writes (W q strb last word) p =
-    if (p == q) && nat_lt (length before) (4 * length writes) then Some (record { strobe = strb; word = word }) else None
+    if (p == q) && nat_lt (length before) (4 * length writes)
+    then Some (record { strobe = strb; word = word }) else None
 beat_at before writes _ p = None
 
 abbrev pub add_beat : List Beat → List Transaction → Event → ℕ → List Beat
@@ -45,7 +47,8 @@ next_write_beat past p = length (beats past p) % 4
 
 -- the beats so far of a write with data: four for each of the port's earlier ones come first
 abbrev pub burst_of : Trace → Transaction → List Beat
-burst_of past x = take 4 (drop (4 * length (data_writes (at_point x.place past) x.port)) (beats past x.port))
+burst_of past x =
+    take 4 (drop (4 * length (data_writes (at_point x.place past) x.port)) (beats past x.port))
 
 abbrev pub is_burst_whole : Trace → Transaction → Bool
 is_burst_whole past x = length (burst_of past x) == 4

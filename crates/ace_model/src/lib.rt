@@ -1,4 +1,5 @@
-//! What a trace means: its transactions, the rules, which traces are accepted, and what acceptance promises.
+//! What a trace means: its transactions, the rules, which traces are accepted, and what acceptance
+//! promises.
 #![tactic(auto)]
 
 mod among;

@@ -6,9 +6,9 @@ use ace_io::NoMemory;
 use std::alloc::Global;
 use std::marker::Model;
 
-/// An operation of a script. `addr` is the address of a line, a multiple of 64; `w` is the number of a word of it, from 0
-/// to 3; bit n of a strobe belongs to byte n of the line. The words of the DVM operations are DVM messages
-/// (Arm IHI 0022E, C12.3).
+/// An operation of a script. `addr` is the address of a line, a multiple of 64; `w` is the number
+/// of a word of it, from 0 to 3; bit n of a strobe belongs to byte n of the line. The words of the
+/// DVM operations are DVM messages (Arm IHI 0022E, C12.3).
 #[derive(Clone, Copy, Debug, PartialEq, Eq)]
 pub enum Op {
     /// A load of a word.
@@ -104,7 +104,8 @@ pub struct PlanOp {
     pub op: Op,
 }
 
-/// How the masters of a run answer snoops. `Mixed` has the number from which each draws its answers.
+/// How the masters of a run answer snoops. `Mixed` has the number from which each draws its
+/// answers.
 #[derive(Clone, Copy, Debug, PartialEq, Eq)]
 pub enum PolicyWord {
     Keep,
@@ -112,8 +113,9 @@ pub enum PolicyWord {
     Mixed(u64),
 }
 
-/// A plan: a header, the number of lines that each cache holds, how snoops are answered, and a list of at most 4,096
-/// operations. Beside them it has a room: so many more operations can be pushed, for which there is memory.
+/// A plan: a header, the number of lines that each cache holds, how snoops are answered, and a list
+/// of at most 4,096 operations. Beside them it has a room: so many more operations can be pushed,
+/// for which there is memory.
 #[derive(Drop)]
 pub struct PlanView {
     header: Header,
@@ -129,9 +131,18 @@ impl Model for PlanView {
 
     ghost Value = { PlanWithRoom };
 
-    ghost view = { λ p. record { plan = record { header = p.header; ways = p.ways; policy = p.policy; operations = p.operations.items }; room = p.room } };
+    ghost view = { λ p. record {
+      plan = record {
+        header = p.header;
+        ways = p.ways;
+        policy = p.policy;
+        operations = p.operations.items;
+      };
+      room = p.room;
+    } };
 
-    ghost invariant = { λ p. (length p.operations.items + p.room ≤ 4096) × (0 < p.room → length p.operations.items + p.room ≤ vec_capacity p.operations) };
+    ghost invariant = { λ p. (length p.operations.items + p.room ≤ 4096)
+        × (0 < p.room → length p.operations.items + p.room ≤ vec_capacity p.operations) };
 }
 
 impl PlanView {
@@ -140,7 +151,15 @@ impl PlanView {
 
     /// A plan without operations, and without room. It takes no memory.
     pub fn new(alloc: Global, header: Header, ways: u8, policy: PolicyWord) -> PlanView
-        ensures { result ≡ record { plan = record { header = header; ways = ways; policy = policy; operations = [] }; room = 0 } }
+        ensures { result ≡ record {
+          plan = record {
+            header = header;
+            ways = ways;
+            policy = policy;
+            operations = [];
+          };
+          room = 0;
+        } }
     {
         PlanView {
             header,
@@ -165,7 +184,15 @@ impl PlanView {
     ) -> Result<PlanView, NoMemory>
         requires some { 1 ≤ room }
         requires most { room ≤ most_operations }
-        ensures { IfOk result (λ view. view ≡ record { plan = record { header = header; ways = ways; policy = policy; operations = [] }; room = room }) }
+        ensures { IfOk result (λ view. view ≡ record {
+          plan = record {
+            header = header;
+            ways = ways;
+            policy = policy;
+            operations = [];
+          };
+          room = room;
+        }) }
     {
         let operations = Vec::with_capacity(alloc, usize::from(room)).map_err(|_| NoMemory)?;
         Ok(PlanView {
@@ -247,7 +274,10 @@ impl PlanView {
     /// Puts the operation at the end, and takes one from the room. It takes no memory.
     pub fn push(&mut self, op: PlanOp)
         requires { self.old.room ≢ 0 }
-        ensures value { self.new ≡ record { plan = longer self.old.plan op; room = self.old.room - 1 } }
+        ensures value { self.new ≡ record {
+          plan = longer self.old.plan op;
+          room = self.old.room - 1;
+        } }
         ensures few { length self.old.plan.operations < most_operations }
     {
         self.operations.push_reserved(op);

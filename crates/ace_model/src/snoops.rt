@@ -6,8 +6,8 @@ pub struct Snoop {
     pub snoop: u8,
 }
 
-/// An answer of a port to a snoop: how many events came before its CR event, its CRRESP, and how many answers with
-/// data the port had given before.
+/// An answer of a port to a snoop: how many events came before its CR event, its CRRESP, and how
+/// many answers with data the port had given before.
 #[derive(Clone, Copy, Debug, PartialEq, Eq)]
 pub struct Answer {
     pub place: usize,

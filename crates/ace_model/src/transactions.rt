@@ -1,6 +1,7 @@
 use ace_event::Channel;
 
-/// A transaction: what its address event says, and how many events came before that one. A write has no `lock`.
+/// A transaction: what its address event says, and how many events came before that one. A write
+/// has no `lock`.
 #[derive(Clone, Copy, Debug, PartialEq, Eq)]
 pub struct Transaction {
     pub place: usize,

@@ -16,7 +16,8 @@ letter_among word rule (letter ∷ others) =
 unfoldable pub page_of_rule : List ℕ → ℕ → Option Page
 page_of_rule word rule =
     if bytes_eq word (page_name rule None) then Some (record { rule = rule; letter = None })
-    else option_map (λ letter. record { rule = rule; letter = Some letter }) (letter_among word rule letters)
+    else option_map (λ letter. record { rule = rule; letter = Some letter })
+    (letter_among word rule letters)
 
 -- the same among the pages of the rules from one number on, so many of them
 unfoldable pub page_from : List ℕ → ℕ → ℕ → Option Page

@@ -51,7 +51,8 @@ is_clause rule letter = not (length (kept_where rule letter) == 0)
 unfoldable pub clause_part : ℕ → Letter → List ℕ
 clause_part rule letter = if is_clause rule letter then clause_lines rule letter else []
 
--- what a page tells: of a rule, with where to look first when it is broken, or of one of its clauses
+-- what a page tells: of a rule, with where to look first when it is broken, or of one of its
+-- clauses
 abbrev pub clauses_text : ℕ → Option Letter → List ℕ
 clauses_text rule None = flat_map (clause_part rule) letters ++ advice rule
 clauses_text rule (Some letter) = clause_lines rule letter

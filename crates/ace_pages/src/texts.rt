@@ -54,7 +54,8 @@ fn push_kept(text: &mut Vec<u8>, rule: u8, letter: Letter) -> Result<(), NoMemor
     )
 }
 
-/// Adds the line that says where the clause is kept, and one that says by the sentence what is wrong.
+/// Adds the line that says where the clause is kept, and one that says by the sentence what is
+/// wrong.
 fn push_lines(text: &mut Vec<u8>, rule: u8, letter: Letter, sentence: &[u8]) -> Result<(), NoMemory>
     ensures { OnOk result (text.new.items ≡ text.old.items
         ++ (kept_line rule letter ++ line_of (codes "        broken:") sentence.now)) }

@@ -33,8 +33,8 @@ fn titles(alloc: Global) -> Result<Vec<u8>, NoMemory>
     Ok(text)
 }
 
-/// What the words are told: the pages that they name, in their order, and without a word the lines of
-/// all rules. Nothing where a word names no page.
+/// What the words are told: the pages that they name, in their order, and without a word the lines
+/// of all rules. Nothing where a word names no page.
 ///
 /// # Errors
 ///

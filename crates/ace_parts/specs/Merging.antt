@@ -14,8 +14,8 @@ texts_of texts = map (λ text. text.now) texts
 abbrev pub part_text : ℕ → ℕ → List Entry → List ℕ
 part_text part parts entries = results_json part parts (part_of part parts entries)
 
--- The texts are what is written of the results of the parts of this list, each of them once: they are as many as there are parts,
--- and what is written of each part is among them.
+-- The texts are what is written of the results of the parts of this list, each of them once: they
+-- are as many as there are parts, and what is written of each part is among them.
 abbrev pub ArePartsOf : List (List ℕ) → List Entry → Type 0
 ArePartsOf texts entries = (part : ℕ) → 0 < part → part ≤ length texts
     → list_any (bytes_eq (part_text part (length texts) entries)) texts ≡ true

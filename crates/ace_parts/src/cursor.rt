@@ -1,5 +1,5 @@
-// Takes a text apart from its front. What it takes is compared with the text when all is read, so it
-// promises nothing here.
+// Takes a text apart from its front. What it takes is compared with the text when all is read, so
+// it promises nothing here.
 
 use ace_io::NoMemory;
 use std::alloc::Global;

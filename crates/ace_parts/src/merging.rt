@@ -15,7 +15,8 @@ use std::alloc::Global;
 pub enum MergeErr {
     /// The text at this place isn't the results of a part.
     Part { place: usize, error: PartErr },
-    /// The text at this place is the results of a part of another number of parts than there are texts.
+    /// The text at this place is the results of a part of another number of parts than there are
+    /// texts.
     OtherParts { place: usize, parts: usize },
     /// None of the texts is the results of this part, counted from 1.
     Missing { part: usize },

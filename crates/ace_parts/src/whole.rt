@@ -13,7 +13,8 @@ fn count_all(parts: &[Part]) -> usize {
     count
 }
 
-/// The result of the trace at this place of the list, taken from the part that has it as the last one.
+/// The result of the trace at this place of the list, taken from the part that has it as the last
+/// one.
 fn take_last(parts: &mut [Part], place: usize) -> Option<Entry> {
     let count = parts.len();
     if count == 0 {
@@ -28,7 +29,8 @@ fn take_last(parts: &mut [Part], place: usize) -> Option<Entry> {
     None
 }
 
-/// The results of the list in the order of its traces, the last first, as far as the parts have them.
+/// The results of the list in the order of its traces, the last first, as far as the parts have
+/// them.
 fn take_backwards(alloc: Global, parts: &mut [Part]) -> Result<Vec<Entry>, NoMemory> {
     let count = count_all(parts);
     let mut entries = Vec::new(alloc);

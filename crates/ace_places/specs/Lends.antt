@@ -12,4 +12,5 @@ module _ (V : RattleType) (m : MutBor (IndexMap ℕ V.Denot ℕ)) where
   -- the line has the last value written through r, and at `None` the map stays as it is
   abbrev pub lends_get : ℕ → Option (MutBor V.Denot) → Fml
   lends_get line r =
-      LendsSo (the_row V) V m r (λ n w. WritesThrough nat_eq (nat_eq line) m.now w n) (λ n. n ≡ m.now)
+      LendsSo (the_row V) V m r (λ n w. WritesThrough nat_eq (nat_eq line) m.now w n)
+      (λ n. n ≡ m.now)

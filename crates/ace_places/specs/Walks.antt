@@ -26,7 +26,8 @@ module _ (lines : List ℕ) (link : ℕ → ℕ) (line : ℕ) where
   abbrev pub read_slot : ℕ → Look
   read_slot slot =
       if nat_lt (link slot) (length lines)
-      then (if slice_index lines (link slot) == line then IsHere (link slot) else LeadsTo (link slot))
+      then (if slice_index lines (link slot) == line then IsHere (link slot)
+      else LeadsTo (link slot))
       else Ends
 
   -- where the walk ends that reads this at a slot

@@ -83,7 +83,8 @@ impl<V> LineMap<V> {
     pub fn get_index_of(&self, line: u32) -> Option<usize>
         ensures index { result ≡ index_of nat_eq self.now line }
         ensures found { is_some result ≡ is_some (get nat_eq self.now line) }
-        ensures value { IfSome result (λ i. slice_get (values self.now) i ≡ get nat_eq self.now line) }
+        ensures value { IfSome result (λ i. slice_get (values self.now) i
+            ≡ get nat_eq self.now line) }
         ensures unique { IsUnique nat_eq self.now }
     {
         self.places.place_of(line)

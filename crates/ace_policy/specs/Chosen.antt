@@ -16,7 +16,9 @@ chosen_rows (Mixed mixed) = snoop_rows
 chosen_rows (Listed listed) = snoop_rows
 
 -- all of them are permitted
-pub chosen_permitted : (policy : Chosen) (snoop : SnoopKind) (held : LineState) (update : Bool) (row : Row) → Contains (chosen_rows policy snoop held update) row → Contains (snoop_rows snoop held update) row
+pub chosen_permitted : (policy : Chosen) (snoop : SnoopKind) (held : LineState) (update : Bool)
+    (row : Row) → Contains (chosen_rows policy snoop held update) row
+    → Contains (snoop_rows snoop held update) row
 chosen_permitted Keep = keep_permitted
 chosen_permitted Eager = eager_permitted
 chosen_permitted (Mixed mixed) = λ _ _ _ _ h. h

@@ -24,7 +24,8 @@ pub Contains-one : (o : Option Row) (row : Row) → o ≡ Some row → Contains 
 Contains-one None row h = grind (arith, nat_tests)
 Contains-one (Some x) row h = (zero, omega arith, grind (arith, h))
 
-last_row-place : (row : Row) (rows : List Row) → last_row (row ∷ rows) ≡ slice_get (row ∷ rows) (length rows)
+last_row-place : (row : Row) (rows : List Row) → last_row (row ∷ rows)
+    ≡ slice_get (row ∷ rows) (length rows)
 last_row-place row [] = refl
 last_row-place row (second ∷ rows) = last_row-place second rows
 
@@ -35,26 +36,34 @@ last_row-at (row ∷ rows) =
     let e : length rows ≡ length (row ∷ rows) - 1 = omega arith in
     last_row-place row rows ∙ ap (slice_get (row ∷ rows)) e
 
-pub last_row-contained : (rows : List Row) (row : Row) → last_row rows ≡ Some row → Contains rows row
+pub last_row-contained : (rows : List Row) (row : Row) → last_row rows ≡ Some row
+    → Contains rows row
 last_row-contained rows row h = Contains-at rows (length rows - 1) row (sym (last_row-at rows) ∙ h)
 
-filter-contained : (p : Row → Bool) (rows : List Row) (row : Row) → Contains (filter p rows) row → Contains rows row
+filter-contained : (p : Row → Bool) (rows : List Row) (row : Row)
+    → Contains (filter p rows) row → Contains rows row
 filter-contained p rows row h =
     let within : Contains rows (get_or (filter p rows) h.0 row) =
     All-filter p (Contains rows) rows (All-contains_itself rows) h.0 row h.1 in
     rw (← h.2) within
 
-pub kept_row-contained : (rows : List Row) (row : Row) → kept_row rows ≡ Some row → Contains rows row
+pub kept_row-contained : (rows : List Row) (row : Row) → kept_row rows ≡ Some row
+    → Contains rows row
 kept_row-contained [] row h = grind (arith, nat_tests)
 kept_row-contained (first ∷ rows) row h =
-    filter-contained (is_like first) (first ∷ rows) row (last_row-contained (filter (is_like first) (first ∷ rows)) row h)
+    filter-contained (is_like first) (first ∷ rows) row
+    (last_row-contained (filter (is_like first) (first ∷ rows)) row h)
 
-pub keep_permitted : (snoop : SnoopKind) (held : LineState) (update : Bool) (row : Row) → Contains (keep_rows snoop held update) row → Contains (snoop_rows snoop held update) row
+pub keep_permitted : (snoop : SnoopKind) (held : LineState) (update : Bool) (row : Row)
+    → Contains (keep_rows snoop held update) row → Contains (snoop_rows snoop held update) row
 keep_permitted snoop held update row h =
-    kept_row-contained (snoop_rows snoop held update) row (one-element (keep_row snoop held update) row h)
+    kept_row-contained (snoop_rows snoop held update) row
+    (one-element (keep_row snoop held update) row h)
 
-pub eager_permitted : (snoop : SnoopKind) (held : LineState) (update : Bool) (row : Row) → Contains (eager_rows snoop held update) row → Contains (snoop_rows snoop held update) row
+pub eager_permitted : (snoop : SnoopKind) (held : LineState) (update : Bool) (row : Row)
+    → Contains (eager_rows snoop held update) row → Contains (snoop_rows snoop held update) row
 eager_permitted snoop held update row h =
-    last_row-contained (snoop_rows snoop held update) row (one-element (eager_row snoop held update) row h)
+    last_row-contained (snoop_rows snoop held update) row
+    (one-element (eager_row snoop held update) row h)
 
 pub ruleset picked_steps = (Contains-one, Contains-at, last_row-at)

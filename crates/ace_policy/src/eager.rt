@@ -8,8 +8,8 @@ use crate::Policy;
 use ace_codes::{LineState, SnoopKind};
 use ace_tables::{Row, snoop_rows};
 
-/// Gives a line up as soon as it can: the last next state that has a row in the order UD, SD, UC, SC, I, and DataTransfer
-/// and WasUnique 1 where they may be.
+/// Gives a line up as soon as it can: the last next state that has a row in the order UD, SD, UC,
+/// SC, I, and DataTransfer and WasUnique 1 where they may be.
 #[derive(Clone, Copy, Debug)]
 pub struct Eager;
 

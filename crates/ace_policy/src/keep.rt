@@ -8,8 +8,8 @@ use crate::Policy;
 use ace_codes::{LineState, SnoopKind, transfers_data};
 use ace_tables::{Row, RowList, snoop_rows};
 
-/// Keeps a line as long as it can: the first next state that has a row in the order UD, SD, UC, SC, I, DataTransfer 1 only
-/// where it must be, and WasUnique 1 where it may be.
+/// Keeps a line as long as it can: the first next state that has a row in the order UD, SD, UC, SC,
+/// I, DataTransfer 1 only where it must be, and WasUnique 1 where it may be.
 #[derive(Clone, Copy, Debug)]
 pub struct Keep;
 

@@ -9,7 +9,8 @@ use ace_tables::{Row, snoop_rows};
 use std::alloc::Global;
 use std::marker::Model;
 
-/// Takes any row, by a list of numbers: one a pick, modulo the number of rows, and after the last from the first again.
+/// Takes any row, by a list of numbers: one a pick, modulo the number of rows, and after the last
+/// from the first again.
 #[derive(Drop)]
 pub struct Listed {
     picks: Vec<u8>,
@@ -56,8 +57,11 @@ impl Policy for Listed {
     #[tactic(auto, using(crate::specs::Permitted::picked_steps))]
     fn pick(&mut self, snoop: SnoopKind, held: LineState, update: bool) -> Row
         requires { 0 < length (snoop_rows snoop held update) }
-        ensures row { row_at_word snoop held update (slice_index self.old.picks self.old.next) ≡ Some result }
-        ensures next { self.new ≡ record self.old { next = (self.old.next + 1) % length self.old.picks } }
+        ensures row { row_at_word snoop held update (slice_index self.old.picks self.old.next)
+            ≡ Some result }
+        ensures next { self.new ≡ record self.old {
+          next = (self.old.next + 1) % length self.old.picks;
+        } }
     {
         let rows = snoop_rows(snoop, held, update);
         let row = rows.row(self.picks[self.next] % rows.count());

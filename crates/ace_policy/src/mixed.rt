@@ -11,7 +11,8 @@ use rand_core::utils::NextWord;
 use rand_pcg::Lcg64Xsh32;
 use std::marker::Model;
 
-/// Takes any row, by the words of a PCG generator of 32-bit words: one word a pick, modulo the number of rows.
+/// Takes any row, by the words of a PCG generator of 32-bit words: one word a pick, modulo the
+/// number of rows.
 #[derive(Drop)]
 pub struct Mixed {
     words: Lcg64Xsh32,

@@ -34,7 +34,12 @@ line_tally past l = record { stores = length (stores_of past l); value = value_o
 abbrev pub loads_of : Trace → List Load
 loads_of [] = []
 loads_of (L p addr w x word ∷ past) =
-    loads_of past ++ record { event = length past + 1; port = p; addr = addr; stores = length (stores_of past addr) } ∷ []
+    loads_of past ++ record {
+      event = length past + 1;
+      port = p;
+      addr = addr;
+      stores = length (stores_of past addr);
+    } ∷ []
 loads_of (_ ∷ past) = loads_of past
 
 -- the tallies are those of the ports from 0 on
@@ -43,7 +48,8 @@ PortsStand past ports = (p : ℕ) → p < length ports → slice_get ports p ≡
 
 -- the lines that line transactions name have their tallies
 abbrev pub LinesStand : Trace → BTreeMap ℕ LineTally → Type 0
-LinesStand past lines = (l : ℕ) → get nat_cmp lines l ≡ (if is_known past l then Some (line_tally past l) else None)
+LinesStand past lines =
+    (l : ℕ) → get nat_cmp lines l ≡ (if is_known past l then Some (line_tally past l) else None)
 
 -- a count of 64 bits with one more
 abbrev pub one_more : ℕ → ℕ
@@ -51,10 +57,14 @@ one_more count = min (count + 1) (2 ^ 64 - 1)
 
 -- the tally of a port with an event of the port
 abbrev pub counted : Event → PortTally → PortTally
-counted (L p addr w x word) t = record { loads = one_more t.loads; stores = t.stores; reads = t.reads; writes = t.writes }
-counted (D p addr strobe x line) t = record { loads = t.loads; stores = one_more t.stores; reads = t.reads; writes = t.writes }
-counted (Ar p i addr snoop dom bar lock) t = record { loads = t.loads; stores = t.stores; reads = one_more t.reads; writes = t.writes }
-counted (Aw p i addr snoop dom bar) t = record { loads = t.loads; stores = t.stores; reads = t.reads; writes = one_more t.writes }
+counted (L p addr w x word) t =
+    record { loads = one_more t.loads; stores = t.stores; reads = t.reads; writes = t.writes }
+counted (D p addr strobe x line) t =
+    record { loads = t.loads; stores = one_more t.stores; reads = t.reads; writes = t.writes }
+counted (Ar p i addr snoop dom bar lock) t =
+    record { loads = t.loads; stores = t.stores; reads = one_more t.reads; writes = t.writes }
+counted (Aw p i addr snoop dom bar) t =
+    record { loads = t.loads; stores = t.stores; reads = t.reads; writes = one_more t.writes }
 counted _ t = t
 
 -- the port of an event that is counted

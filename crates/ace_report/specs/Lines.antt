@@ -29,5 +29,6 @@ line_line e =
 -- a load
 abbrev pub load_line : Load → List ℕ
 load_line x =
-    codes "load " ++ decimal x.event ++ codes " " ++ decimal x.port ++ codes " " ++ hex_text 8 x.addr
+    codes "load " ++ decimal x.event ++ codes " " ++ decimal x.port
+    ++ codes " " ++ hex_text 8 x.addr
     ++ codes " " ++ decimal x.stores ++ codes "\n"

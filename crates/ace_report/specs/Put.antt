@@ -4,7 +4,8 @@ use Rattle.std.specs.Io.KnownBytes.{Appends}
 
 -- a front of the text was appended
 abbrev pub AppendsPart : Option (List ℕ) → Option (List ℕ) → List ℕ → Type 0
-AppendsPart old new text = (part : List ℕ) × (rest : List ℕ) × (text ≡ part ++ rest) × Appends old new part
+AppendsPart old new text =
+    (part : List ℕ) × (rest : List ℕ) × (text ≡ part ++ rest) × Appends old new part
 
 -- Of the text, a front was appended, and the rest of it stands on the page.
 pub record IsUnderWay (before now : Option (List ℕ)) (page text : List ℕ) : Type 0 where
@@ -21,4 +22,5 @@ Puts old old_page text new new_page rest =
 -- The sink failed: a front of the text was appended, behind what was under way before.
 abbrev pub PutsPart : Option (List ℕ) → List ℕ → List ℕ → Option (List ℕ) → Type 0
 PutsPart old old_page text new =
-    (before : Option (List ℕ)) (so_far : List ℕ) → IsUnderWay before old old_page so_far → AppendsPart before new (so_far ++ text)
+    (before : Option (List ℕ)) (so_far : List ℕ) → IsUnderWay before old old_page so_far
+    → AppendsPart before new (so_far ++ text)

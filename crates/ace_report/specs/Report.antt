@@ -1,5 +1,5 @@
--- The report of a trace, as text: what each port did, the stores and the value of each line, and the place of each load among
--- the stores of its line.
+-- The report of a trace, as text: what each port did, the stores and the value of each line, and
+-- the place of each load among the stores of its line.
 use Rattle.std.specs.Prelude.{ℕ, ◌+◌, Bool, false, ◌==◌, nat_lt, if◌then◌else◌, List, [], ◌∷◌, ◌++◌, length, codes, decimal}
 use Rattle.std.specs.List.{count_by, flat_map, range_with_len}
 use Rattle.ace_event.specs.Text.{hex_text, line_digits}
@@ -52,10 +52,12 @@ line_report past l =
     codes "line " ++ hex_text 8 l ++ codes " stores " ++ decimal (length (stores_of past l))
     ++ codes " value " ++ line_digits (value_of past l) ++ codes "\n"
 
--- a load after the trace: the number of its event, from 1, its port and address, and how many stores to its line came before it
+-- a load after the trace: the number of its event, from 1, its port and address, and how many
+-- stores to its line came before it
 abbrev pub load_report : Trace → ℕ → ℕ → List ℕ
 load_report past p addr =
-    codes "load " ++ decimal (length past + 1) ++ codes " " ++ decimal p ++ codes " " ++ hex_text 8 addr
+    codes "load " ++ decimal (length past + 1) ++ codes " " ++ decimal p
+    ++ codes " " ++ hex_text 8 addr
     ++ codes " " ++ decimal (length (stores_of past addr)) ++ codes "\n"
 
 -- each load, in order
@@ -64,8 +66,9 @@ load_reports [] = []
 load_reports (L p addr w x word ∷ past) = load_reports past ++ load_report past p addr
 load_reports (_ ∷ past) = load_reports past
 
--- The report of a trace under its header: its ports in order of number, the lines that line transactions name in order of
--- address, and its loads in order.
+-- The report of a trace under its header: its ports in order of number, the lines that line
+-- transactions name in order of address, and its loads in order.
 abbrev pub report_text : Header → Trace → List ℕ
 report_text h past =
-    flat_map (port_report past) (range_with_len 0 h.ports) ++ flat_map (line_report past) (in_order (known_lines past)) ++ load_reports past
+    flat_map (port_report past) (range_with_len 0 h.ports)
+    ++ flat_map (line_report past) (in_order (known_lines past)) ++ load_reports past

@@ -1,4 +1,5 @@
-//! The report of an accepted trace: what each port did, the stores and the value of each line, the place of each load.
+//! The report of an accepted trace: what each port did, the stores and the value of each line, the
+//! place of each load.
 #![tactic(auto)]
 
 mod lines;

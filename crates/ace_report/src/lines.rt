@@ -24,7 +24,8 @@ use std::collections::BTreeMap;
 #[inline(never)]
 fn name(lines: &mut BTreeMap<u32, LineTally>, line: u32, memory: Line) -> Result<(), NoMemory>
     ensures named { OnOk result ((l : ℕ) → get nat_cmp lines.new l ≡ (if line == l
-        then Some (unwrap_or (get nat_cmp lines.old l) (record { stores = 0; value = memory })) else get nat_cmp lines.old l)) }
+        then Some (unwrap_or (get nat_cmp lines.old l) (record { stores = 0; value = memory }))
+        else get nat_cmp lines.old l)) }
     ensures cause { OnErr result (get nat_cmp lines.old line ≡ None) }
 {
     let untouched = LineTally {
@@ -44,7 +45,8 @@ fn name(lines: &mut BTreeMap<u32, LineTally>, line: u32, memory: Line) -> Result
 #[inline(never)]
 fn store(lines: &mut BTreeMap<u32, LineTally>, line: u32, bytes: &WriteData)
     ensures { (l : ℕ) → get nat_cmp lines.new l ≡ (if line == l
-        then option_map (with_store bytes.now) (get nat_cmp lines.old l) else get nat_cmp lines.old l) }
+        then option_map (with_store bytes.now) (get nat_cmp lines.old l)
+        else get nat_cmp lines.old l) }
 {
     if let Some(tally) = lines.get_mut(&line) {
         tally.stores = tally.stores.saturating_add(1);
@@ -55,7 +57,8 @@ fn store(lines: &mut BTreeMap<u32, LineTally>, line: u32, bytes: &WriteData)
 /// Adds a store to the tally of its line, if there is one.
 #[inline(always)]
 fn add_store(lines: &mut BTreeMap<u32, LineTally>, line: Option<u32>, bytes: Option<WriteData>)
-    ensures { (l : ℕ) → get nat_cmp lines.new l ≡ option_map (stored (bytes_to line bytes l)) (get nat_cmp lines.old l) }
+    ensures { (l : ℕ) → get nat_cmp lines.new l
+        ≡ option_map (stored (bytes_to line bytes l)) (get nat_cmp lines.old l) }
 {
     if let (Some(line), Some(bytes)) = (line, bytes) {
         store(lines, line, &bytes);
@@ -69,8 +72,10 @@ fn name_line(
     line: Option<u32>,
     memory: Line,
 ) -> Result<(), NoMemory>
-    ensures named { OnOk result ((l : ℕ) → get nat_cmp lines.new l ≡ (if is_some_and line (λ m. m == l)
-        then Some (unwrap_or (get nat_cmp lines.old l) (record { stores = 0; value = memory })) else get nat_cmp lines.old l)) }
+    ensures named { OnOk result ((l : ℕ) → get nat_cmp lines.new l
+        ≡ (if is_some_and line (λ m. m == l)
+        then Some (unwrap_or (get nat_cmp lines.old l) (record { stores = 0; value = memory }))
+        else get nat_cmp lines.old l)) }
     ensures cause { OnErr result (IsAbsent lines.old line) }
 {
     match line {

@@ -17,7 +17,8 @@ use std::collections::BTreeMap;
 
 /// How many stores were made to the line.
 fn stores_to(lines: &BTreeMap<u32, LineTally>, line: u32) -> u64
-    ensures { result ≡ unwrap_or (option_map (λ (t : LineTally). t.stores) (get nat_cmp lines.now line)) 0 }
+    ensures { result ≡ unwrap_or (option_map (λ (t : LineTally). t.stores)
+        (get nat_cmp lines.now line)) 0 }
 {
     match lines.get(&line) {
         Some(tally) => tally.stores,
@@ -62,8 +63,10 @@ pub(crate) fn hear_load(
     place: usize,
     event: &Event,
 ) -> Result<(), NoMemory>
-    ensures stands { (h : Header) (past : Trace) → LinesStand past lines.now → loads.old.items ≡ loads_of past → place ≡ length past
-        → IsAccepted h (event.now ∷ past) → length past < 2 ^ 64 - 2 → OnOk result (loads.new.items ≡ loads_of (event.now ∷ past)) }
+    ensures stands { (h : Header) (past : Trace) → LinesStand past lines.now
+        → loads.old.items ≡ loads_of past → place ≡ length past
+        → IsAccepted h (event.now ∷ past) → length past < 2 ^ 64 - 2
+        → OnOk result (loads.new.items ≡ loads_of (event.now ∷ past)) }
     ensures cause { OnErr result ((h : Header) (past : Trace) → AddsEntry h past event.now) }
 {
     match *event {

@@ -67,7 +67,8 @@ fn counted_port(event: &Event) -> Option<u8>
 #[inline(always)]
 pub(crate) fn count(ports: &mut [PortTally], event: &Event)
     ensures len { length ports.new ≡ length ports.old }
-    ensures ports { (past : Trace) → length past < 2 ^ 64 - 2 → PortsStand past ports.old → PortsStand (event.now ∷ past) ports.new }
+    ensures ports { (past : Trace) → length past < 2 ^ 64 - 2 → PortsStand past ports.old
+        → PortsStand (event.now ∷ past) ports.new }
 {
     if let Some(port) = counted_port(event) {
         let place = usize::from(port);

@@ -42,8 +42,10 @@ pub fn make_room<K: Sink>(sink: &mut K, page: &mut TextBuf) -> Result<(), Failed
 
 /// Puts the line of each port.
 fn put_ports<K: Sink>(sink: &mut K, page: &mut TextBuf, ports: &[PortTally]) -> Result<(), Failed>
-    ensures whole { OnOk result (Puts (K.held sink.old) page.old (ports_text 0 ports.now) (K.held sink.new) page.new []) }
-    ensures part { OnErr result (PutsPart (K.held sink.old) page.old (ports_text 0 ports.now) (K.held sink.new)) }
+    ensures whole { OnOk result (Puts (K.held sink.old) page.old
+        (ports_text 0 ports.now) (K.held sink.new) page.new []) }
+    ensures part { OnErr result (PutsPart (K.held sink.old) page.old
+        (ports_text 0 ports.now) (K.held sink.new)) }
     ensures cause { HasCause (K.faults sink.old) (K.faults sink.new) result }
 {
     for (port, tally) in ports.iter().enumerate() {
@@ -61,8 +63,10 @@ fn put_lines<K: Sink>(
     page: &mut TextBuf,
     lines: Iter<'_, u32, LineTally>,
 ) -> Result<(), Failed>
-    ensures whole { OnOk result (Puts (K.held sink.old) page.old (flat_map line_line lines.entry) (K.held sink.new) page.new []) }
-    ensures part { OnErr result (PutsPart (K.held sink.old) page.old (flat_map line_line lines.entry) (K.held sink.new)) }
+    ensures whole { OnOk result (Puts (K.held sink.old) page.old
+        (flat_map line_line lines.entry) (K.held sink.new) page.new []) }
+    ensures part { OnErr result (PutsPart (K.held sink.old) page.old
+        (flat_map line_line lines.entry) (K.held sink.new)) }
     ensures cause { HasCause (K.faults sink.old) (K.faults sink.new) result }
 {
     for (line, tally) in lines {
@@ -76,8 +80,10 @@ fn put_lines<K: Sink>(
 
 /// Puts the line of each load.
 fn put_loads<K: Sink>(sink: &mut K, page: &mut TextBuf, loads: &[Load]) -> Result<(), Failed>
-    ensures whole { OnOk result (Puts (K.held sink.old) page.old (flat_map load_line loads.now) (K.held sink.new) page.new []) }
-    ensures part { OnErr result (PutsPart (K.held sink.old) page.old (flat_map load_line loads.now) (K.held sink.new)) }
+    ensures whole { OnOk result (Puts (K.held sink.old) page.old
+        (flat_map load_line loads.now) (K.held sink.new) page.new []) }
+    ensures part { OnErr result (PutsPart (K.held sink.old) page.old
+        (flat_map load_line loads.now) (K.held sink.new)) }
     ensures cause { HasCause (K.faults sink.old) (K.faults sink.new) result }
 {
     for load in loads {
@@ -89,7 +95,8 @@ fn put_loads<K: Sink>(sink: &mut K, page: &mut TextBuf, loads: &[Load]) -> Resul
     Ok(())
 }
 
-/// Puts the lines of the ports, of the lines of memory and of the loads, and gives all that stands on the page, which is empty at first.
+/// Puts the lines of the ports, of the lines of memory and of the loads, and gives all that stands
+/// on the page, which is empty at first.
 pub(crate) fn put_all<K: Sink>(
     sink: &mut K,
     ports: &[PortTally],
@@ -97,9 +104,11 @@ pub(crate) fn put_all<K: Sink>(
     loads: &[Load],
 ) -> Result<(), Failed>
     ensures whole { OnOk result (Appends (K.held sink.old) (K.held sink.new)
-        (ports_text 0 ports.now ++ (flat_map line_line lines.entry ++ flat_map load_line loads.now))) }
+        (ports_text 0 ports.now ++ (flat_map line_line lines.entry
+        ++ flat_map load_line loads.now))) }
     ensures part { OnErr result (AppendsPart (K.held sink.old) (K.held sink.new)
-        (ports_text 0 ports.now ++ (flat_map line_line lines.entry ++ flat_map load_line loads.now))) }
+        (ports_text 0 ports.now ++ (flat_map line_line lines.entry
+        ++ flat_map load_line loads.now))) }
     ensures cause { HasCause (K.faults sink.old) (K.faults sink.new) result }
 {
     let mut page = TextBuf::empty();

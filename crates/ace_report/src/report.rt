@@ -11,8 +11,9 @@ use ace_portck::PortCheck;
 use std::alloc::Global;
 use std::collections::BTreeMap;
 
-/// What a report says of an accepted trace. It keeps a number for each thing that a port does, the stores and the value of each line
-/// that a transaction names, and each load, which are the things that it prints.
+/// What a report says of an accepted trace. It keeps a number for each thing that a port does, the
+/// stores and the value of each line that a transaction names, and each load, which are the things
+/// that it prints.
 #[derive(Drop)]
 pub struct Report {
     pub(crate) header: Header,
@@ -70,7 +71,8 @@ impl Report {
     ///
     /// # Errors
     ///
-    /// `NoMemory` where there is none for a load, or for a line that no transaction has named before. The report is of no use then.
+    /// `NoMemory` where there is none for a load, or for a line that no transaction has named
+    /// before. The report is of no use then.
     #[inline(always)]
     pub fn hear(
         &mut self,
@@ -94,11 +96,13 @@ impl Report {
         }
     }
 
-    /// Puts the text of the report: what each port did, the stores and the value of each line in order of address, and each load.
+    /// Puts the text of the report: what each port did, the stores and the value of each line in
+    /// order of address, and each load.
     ///
     /// # Errors
     ///
-    /// `Failed` where the sink's count of faults rose in this call. What was given is a front of the text then.
+    /// `Failed` where the sink's count of faults rose in this call. What was given is a front of
+    /// the text then.
     pub fn put<K: Sink>(&self, sink: &mut K) -> Result<(), Failed>
         ensures whole { (h : Header) (past : Trace) → Stands self.now h past
             → OnOk result (Appends (K.held sink.old) (K.held sink.new) (report_text h past)) }

@@ -1,4 +1,5 @@
--- For each rule a shortest trace whose last event is its first break, and breaks this rule as its least.
+-- For each rule a shortest trace whose last event is its first break, and breaks this rule as its
+-- least.
 use Rattle.std.specs.Prelude.{ℕ, true, false, List, [], ◌∷◌, ◌++◌}
 use Rattle.ace_codes.specs.declared.state.LineState.TheVariants.{I, UC, SC}
 use Rattle.ace_event.specs.declared.line.Line.{Line}
@@ -85,7 +86,8 @@ breaks_k15 = message ∷ forward 1 ∷ Cr 1 1 I ∷ []
 
 -- a line that is being written back is passed on dirty
 abbrev pub breaks_k16 : List Event
-breaks_k16 = make 0 0 ++ issue_write 0 write_back ∷ ask 1 read_unique ++ snoop 0 read_unique ∷ Cr 0 5 I ∷ []
+breaks_k16 =
+    make 0 0 ++ issue_write 0 write_back ∷ ask 1 read_unique ++ snoop 0 read_unique ∷ Cr 0 5 I ∷ []
 
 -- snoop data of no answer
 abbrev pub breaks_k17 : List Event

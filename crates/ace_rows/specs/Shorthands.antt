@@ -1,5 +1,5 @@
--- Shorthands for the traces of this crate, which have the oldest event first. Most speak of the one line at 0x40 and of
--- transactions under identifier 0.
+-- Shorthands for the traces of this crate, which have the oldest event first. Most speak of the one
+-- line at 0x40 and of transactions under identifier 0.
 use Rattle.std.specs.Prelude.{ℕ, ◌*◌, true, false, List, [], ◌∷◌, ◌++◌}
 use Rattle.ace_codes.specs.declared.state.LineState.TheVariants.{UC, UD, SC}
 use Rattle.ace_event.specs.declared.header.Header.{Header}
@@ -101,12 +101,16 @@ repeated_word byte = byte * 0x01010101010101010101010101010101
 
 abbrev pub repeated_line : ℕ → Line
 repeated_line byte =
-    record { words = repeated_word byte ∷ repeated_word byte ∷ repeated_word byte ∷ repeated_word byte ∷ [] }
+    record {
+      words = repeated_word byte ∷ repeated_word byte ∷ repeated_word byte
+          ∷ repeated_word byte ∷ [];
+    }
 
 -- the four transfers of a read of the line, with this response and byte
 abbrev pub four_transfers : ℕ → ℕ → ℕ → List Event
 four_transfers p resp byte =
-    R p 0 resp false (repeated_word byte) ∷ R p 0 resp false (repeated_word byte) ∷ R p 0 resp false (repeated_word byte)
+    R p 0 resp false (repeated_word byte) ∷ R p 0 resp false (repeated_word byte)
+    ∷ R p 0 resp false (repeated_word byte)
     ∷ R p 0 resp true (repeated_word byte) ∷ []
 
 -- the one transfer of a dataless read, with this response
@@ -116,13 +120,15 @@ one_transfer p resp = R p 0 resp true 0
 -- the four transfers of a write of the line
 abbrev pub four_writes : ℕ → ℕ → List Event
 four_writes p byte =
-    W p 0xffff false (repeated_word byte) ∷ W p 0xffff false (repeated_word byte) ∷ W p 0xffff false (repeated_word byte)
+    W p 0xffff false (repeated_word byte) ∷ W p 0xffff false (repeated_word byte)
+    ∷ W p 0xffff false (repeated_word byte)
     ∷ W p 0xffff true (repeated_word byte) ∷ []
 
 -- the four transfers of snoop data
 abbrev pub four_data : ℕ → ℕ → List Event
 four_data p byte =
-    Cd p false (repeated_word byte) ∷ Cd p false (repeated_word byte) ∷ Cd p false (repeated_word byte)
+    Cd p false (repeated_word byte) ∷ Cd p false (repeated_word byte)
+    ∷ Cd p false (repeated_word byte)
     ∷ Cd p true (repeated_word byte) ∷ []
 
 -- the port issues a read, an exclusive read, a write of this kind, on the line

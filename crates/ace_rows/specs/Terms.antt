@@ -14,7 +14,9 @@ stores = get 0 ++ store 0 0x11 ∷ []
 
 -- and then writes it back: AW, four W, M and B
 abbrev pub writes_back : List Event
-writes_back = stores ++ issue_write 0 write_back ∷ four_writes 0 0x11 ++ M 0 Write 0 (repeated_line 0x11) ∷ B 0 0 0 ∷ []
+writes_back =
+    stores ++ issue_write 0 write_back ∷ four_writes 0 0x11 ++ M 0 Write 0 (repeated_line 0x11)
+    ∷ B 0 0 0 ∷ []
 
 -- after the store port 1 asks for the line, and port 0 answers the snoop with its dirty data
 abbrev pub passes_dirt : List Event
@@ -27,7 +29,17 @@ sends_dirt = passes_dirt ++ four_data 0 0x11
 -- the read of port 1, which is issued by the ninth event
 abbrev pub second_read : Transaction
 second_read =
-    record { place = 8; port = 1; chan = Read; id = 0; addr = line_a; snoop = read_unique; dom = 1; bar = 0; lock = false }
+    record {
+      place = 8;
+      port = 1;
+      chan = Read;
+      id = 0;
+      addr = line_a;
+      snoop = read_unique;
+      dom = 1;
+      bar = 0;
+      lock = false;
+    }
 
 -- a read of port 0 whose passed data are written to memory
 abbrev pub writes_dirt : List Event
@@ -36,7 +48,17 @@ writes_dirt = cleans_for_a_read 3 ++ M 0 Read 0 (repeated_line 0x11) ∷ []
 -- the read once of port 1, which is issued by the eighth event
 abbrev pub read_once_of_the_line : Transaction
 read_once_of_the_line =
-    record { place = 7; port = 1; chan = Read; id = 0; addr = line_a; snoop = read_once; dom = 1; bar = 0; lock = false }
+    record {
+      place = 7;
+      port = 1;
+      chan = Read;
+      id = 0;
+      addr = line_a;
+      snoop = read_once;
+      dom = 1;
+      bar = 0;
+      lock = false;
+    }
 
 -- port 0 makes the line unique, and has had its one R
 abbrev pub makes : List Event

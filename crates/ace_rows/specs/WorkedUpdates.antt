@@ -9,7 +9,8 @@ use Rattle.ace_rows.specs.Shorthands.{read_shared, clean_invalid, write_back, wr
 -- while port 1 writes its dirty line back, it is snooped for the CleanInvalid of port 0
 abbrev pub snooped_during_a_write_back : List Event
 snooped_during_a_write_back =
-    get 1 ++ store 1 0x11 ∷ issue_write 1 write_back ∷ ask 0 clean_invalid ++ snoop 1 clean_invalid ∷ []
+    get 1 ++ store 1 0x11 ∷ issue_write 1 write_back ∷ ask 0 clean_invalid
+    ++ snoop 1 clean_invalid ∷ []
 
 -- it passes on the dirty data that it writes back too
 abbrev pub passes_on_what_it_writes_back : List Event
@@ -18,13 +19,16 @@ passes_on_what_it_writes_back = snooped_during_a_write_back ++ Cr 1 5 I ∷ []
 -- it answers once the WriteBack has ended
 abbrev pub answers_after_its_write_back : List Event
 answers_after_its_write_back =
-    snooped_during_a_write_back ++ four_writes 1 0x11 ++ M 1 Write 0 (repeated_line 0x11) ∷ B 1 0 0 ∷ Wk 1 I ∷ Cr 1 0 I
+    snooped_during_a_write_back ++ four_writes 1 0x11 ++ M 1 Write 0 (repeated_line 0x11)
+    ∷ B 1 0 0 ∷ Wk 1 I ∷ Cr 1 0 I
     ∷ one_transfer 0 0 ∷ Rk 0 I ∷ []
 
--- Port 1 evicts a clean line with its data. Before these are in memory, port 0 gets to share the line.
+-- Port 1 evicts a clean line with its data. Before these are in memory, port 0 gets to share the
+-- line.
 abbrev pub shares_a_line_that_leaves : List Event
 shares_a_line_that_leaves =
-    get 1 ++ issue_write 1 write_evict ∷ four_writes 1 0 ++ ask 0 read_shared ++ snoop 1 read_shared ∷ Cr 1 8 SC
+    get 1 ++ issue_write 1 write_evict ∷ four_writes 1 0 ++ ask 0 read_shared
+    ++ snoop 1 read_shared ∷ Cr 1 8 SC
     ∷ four_transfers 0 8 0 ++ Rk 0 SC ∷ M 1 Write 0 (repeated_line 0) ∷ B 1 0 0 ∷ Wk 1 I ∷ []
 
 -- port 0 writes back the line as it was before its store

@@ -1,6 +1,7 @@
-//! Worked traces, and what the definitions say of each: for each rule a shortest trace that breaks it, traces of each kind
-//! of transaction, what the terms of the rules are at points of a trace, and runs that lack a property. These functions do
-//! no work: their contracts are what the definitions compute.
+//! Worked traces, and what the definitions say of each: for each rule a shortest trace that breaks
+//! it, traces of each kind of transaction, what the terms of the rules are at points of a trace,
+//! and runs that lack a property. These functions do no work: their contracts are what the
+//! definitions compute.
 #![tactic(auto, unfolding(ace_codes::specs::Reads::ar_kind_of, ace_codes::specs::Snoops::ac_kind_of, ace_codes::specs::Writes::aw_kind_of, ace_event::specs::Bytes::merged, ace_event::specs::Bytes::number_of_bytes))]
 
 pub mod properties;

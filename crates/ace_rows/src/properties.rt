@@ -1,4 +1,5 @@
-//! Runs that go wrong, and the property that each of them lacks: none of the eight holds of every trace.
+//! Runs that go wrong, and the property that each of them lacks: none of the eight holds of every
+//! trace.
 
 ghost use Rattle.std.specs.Prelude.{reverse};
 ghost use Rattle.ace_model.specs.Unique.{Unique, OneDirty};

@@ -5,7 +5,8 @@ ghost use Rattle.ace_model.specs.Accepted.{first_break};
 ghost use Rattle.ace_rows.specs.Shorthands.{one_ace, one_lite, two_ace, two_lite};
 ghost use Rattle.ace_rows.specs.Shortest.{breaks_k1, breaks_k2, breaks_k3, breaks_k4, breaks_k5, breaks_k6, breaks_k7, breaks_k8, breaks_k9, breaks_k10, breaks_k11, breaks_k12, breaks_k13, breaks_k14, breaks_k15, breaks_k16, breaks_k17, breaks_k18, breaks_k19, breaks_k20, breaks_k21, breaks_k22, breaks_k23, breaks_k24, breaks_k25, breaks_k26, breaks_k27, breaks_k28, breaks_k29, breaks_k30, breaks_k31, breaks_k32, breaks_k33, breaks_k34, breaks_k35, breaks_k36, breaks_k37, breaks_k38, breaks_k39, breaks_k40};
 
-/// Each trace is accepted but for its last event, whose least broken rule is the one that it is named for.
+/// Each trace is accepted but for its last event, whose least broken rule is the one that it is
+/// named for.
 pub fn each_rule_is_broken()
     ensures k1 { first_break one_lite breaks_k1 ≡ Some (record { index = 1; rule = 1 }) }
     ensures k2 { first_break one_ace breaks_k2 ≡ Some (record { index = 1; rule = 2 }) }

@@ -8,7 +8,8 @@ ghost use Rattle.ace_rows.specs.WorkedExclusives.{ends_without_the_line, ends_wi
 /// A port that lost the line while its CleanUnique waited ends without the line.
 pub fn a_lost_line_stays_lost()
     ensures accepted { first_break two_ace ends_without_the_line ≡ None }
-    ensures refused { first_break two_ace ends_with_a_lost_line ≡ Some (record { index = 22; rule = 23 }) }
+    ensures refused { first_break two_ace ends_with_a_lost_line
+        ≡ Some (record { index = 22; rule = 23 }) }
 {}
 
 /// Of two ports that loaded exclusively one may store, once.

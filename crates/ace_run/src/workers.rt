@@ -66,7 +66,8 @@ fn work_all<R: Threads + Wait + Sync, G: Gate + Sync>(
     });
 }
 
-/// The system, if it is one of the plan, else a new one: of what lay behind a lock nothing is known but what its type keeps.
+/// The system, if it is one of the plan, else a new one: of what lay behind a lock nothing is known
+/// but what its type keeps.
 fn of_plan(alloc: Global, plan: &Plan, system: System) -> Result<System, NoMemory>
     ensures { IfOk result (λ s. plan_of s ≡ plan.now) }
 {
@@ -77,8 +78,9 @@ fn of_plan(alloc: Global, plan: &Plan, system: System) -> Result<System, NoMemor
     System::start(alloc, plan)
 }
 
-/// The run of the plan in threads: a worker for each port takes `64 + 16 * n` turns of it, for a plan of n operations, and passes the gate before
-/// each; what is left to do then is done by the caller. Which worker comes first is not said.
+/// The run of the plan in threads: a worker for each port takes `64 + 16 * n` turns of it, for a
+/// plan of n operations, and passes the gate before each; what is left to do then is done by the
+/// caller. Which worker comes first is not said.
 ///
 /// # Errors
 ///

@@ -66,14 +66,15 @@ two_lines ways = plan_of one_ace ways Keep (asks 0 (op.Ld 0x40 0) ∷ asks 0 (op
 
 abbrev pub holds_two_lines : List Event
 holds_two_lines =
-    take 9 (events_of loads) ++ Ar 0 0 0x80 read_shared 1 0 false ∷ G 0 Read 0 ∷ R 0 0 0 false 0 ∷ R 0 0 0 false 0 ∷ R 0 0 0 false 0
+    take 9 (events_of loads) ++ Ar 0 0 0x80 read_shared 1 0 false
+    ∷ G 0 Read 0 ∷ R 0 0 0 false 0 ∷ R 0 0 0 false 0 ∷ R 0 0 0 false 0
     ∷ R 0 0 0 true 0 ∷ Rk 0 UC ∷ L 0 0x80 0 false 0 ∷ Op 0 1 Ok ∷ []
 
 -- a cache that should give lines up keeps one
 abbrev pub eager_plan : Plan
 eager_plan = record cleaning_plan { policy = Eager }
 
--- The first transfer says that the line is shared, though no port shares it. The rules allow that, and want the later ones to say
--- the same; but no step gives them.
+-- The first transfer says that the line is shared, though no port shares it. The rules allow that,
+-- and want the later ones to say the same; but no step gives them.
 abbrev pub says_shared : List Event
 says_shared = take 2 (events_of loads) ++ R 0 0 8 false 0 ∷ []

@@ -12,7 +12,8 @@ use Rattle.ace_runs.specs.Bursts.{onto, are_kept}
 use Rattle.ace_runs.specs.Steps.{Turn, is_enabled, is_step, is_step_by}
 
 abbrev pub plan_of : Header → ℕ → PolicyWord → List PlanOp → Plan
-plan_of h ways policy operations = record { header = h; ways = ways; policy = policy; operations = operations }
+plan_of h ways policy operations =
+    record { header = h; ways = ways; policy = policy; operations = operations }
 
 -- the operation of a port
 abbrev pub asks : ℕ → Op → PlanOp
@@ -48,7 +49,8 @@ enabled_ports plan past = filter (is_enabled plan past) (ports_below plan.header
 -- the same before each turn, and after the last
 abbrev pub enabled_at_each : Plan → Trace → List Row → List (List ℕ)
 enabled_at_each plan past [] = enabled_ports plan past ∷ []
-enabled_at_each plan past (r ∷ rows) = enabled_ports plan past ∷ enabled_at_each plan (onto r.turn.burst past) rows
+enabled_at_each plan past (r ∷ rows) =
+    enabled_ports plan past ∷ enabled_at_each plan (onto r.turn.burst past) rows
 
 -- what the rows say of it: after the last turn no port is enabled
 abbrev pub enabled_in : List Row → List (List ℕ)
@@ -56,11 +58,14 @@ enabled_in rows = map (λ r. r.enabled) rows ++ [] ∷ []
 
 -- the turn of the run with n turns before it is step k
 abbrev pub is_by : ℕ → Plan → List Row → ℕ → Bool
-is_by k plan rows n = is_some_and (slice_get rows n) (λ r. is_step_by (k ∷ []) plan (after n rows) r.turn.port r.turn.burst)
+is_by k plan rows n =
+    is_some_and (slice_get rows n) (λ r. is_step_by (k ∷ []) plan
+    (after n rows) r.turn.port r.turn.burst)
 
 -- in its place the burst would break no rule, but it is no step of the port
 abbrev pub is_refused : Plan → List Row → ℕ → ℕ → List Event → Bool
-is_refused plan rows n p burst = are_kept plan.header (after n rows) burst && not (is_step plan (after n rows) p burst)
+is_refused plan rows n p burst =
+    are_kept plan.header (after n rows) burst && not (is_step plan (after n rows) p burst)
 
 -- the code of a CleanShared
 abbrev pub clean_shared : ℕ

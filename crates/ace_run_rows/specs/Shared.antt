@@ -31,7 +31,8 @@ discards =
     ∷ row (1 ∷ []) 1 (Op 1 0 Ok ∷ [])
     ∷ []
 
--- An ACE-Lite port cleans the dirty line of an ACE port: a CleanShared takes no passed data, so they go to memory.
+-- An ACE-Lite port cleans the dirty line of an ACE port: a CleanShared takes no passed data, so
+-- they go to memory.
 abbrev pub cleaning_plan : Plan
 cleaning_plan = plan_of one_ace_one_lite 1 Keep
     (asks 0 (op.Fill 0x40 (repeated_line 0x11))
@@ -85,8 +86,10 @@ messages_plan = plan_of three_ace 1 Keep
 
 abbrev pub messages : List Row
 messages =
-    row (0 ∷ []) 0 (Ar 0 0 0x1001 dvm_message 1 0 false ∷ Ar 0 1 0x12345678 dvm_message 1 0 false ∷ [])
-    ∷ row (0 ∷ []) 0 (Ac 1 0x1001 dvm_message ∷ Ac 1 0x12345678 dvm_message ∷ Ac 2 0x1001 dvm_message ∷ Ac 2 0x12345678 dvm_message ∷ [])
+    row (0 ∷ []) 0 (Ar 0 0 0x1001 dvm_message 1 0 false
+    ∷ Ar 0 1 0x12345678 dvm_message 1 0 false ∷ [])
+    ∷ row (0 ∷ []) 0 (Ac 1 0x1001 dvm_message ∷ Ac 1 0x12345678 dvm_message
+    ∷ Ac 2 0x1001 dvm_message ∷ Ac 2 0x12345678 dvm_message ∷ [])
     ∷ row (2 ∷ 1 ∷ []) 1 (Cr 1 0 I ∷ [])
     ∷ row (2 ∷ 1 ∷ []) 2 (Cr 2 0 I ∷ [])
     ∷ row (2 ∷ 1 ∷ 0 ∷ []) 0 (R 0 0 0 true 0 ∷ [])

@@ -28,7 +28,8 @@ loads =
     ∷ row (0 ∷ []) 0 (R 0 0 0 false 0 ∷ [])
     ∷ row (0 ∷ []) 0 (R 0 0 0 true 0 ∷ [])
     ∷ row (0 ∷ []) 0 (Rk 0 UC ∷ L 0 0x40 0 false 0 ∷ Op 0 0 Ok ∷ [])
-    ∷ row (0 ∷ []) 0 (D 0 0x40 (word_strobe 0) false (word_line 0 (repeated_word 0x11)) ∷ Op 0 1 Ok ∷ [])
+    ∷ row (0 ∷ []) 0 (D 0 0x40 (word_strobe 0) false (word_line 0 (repeated_word 0x11))
+    ∷ Op 0 1 Ok ∷ [])
     ∷ row (0 ∷ []) 0 (Op 0 2 Skip ∷ [])
     ∷ []
 
@@ -99,5 +100,6 @@ exclusive =
     ∷ row (0 ∷ []) 0 (R 0 0 1 false 0 ∷ [])
     ∷ row (0 ∷ []) 0 (R 0 0 1 true 0 ∷ [])
     ∷ row (0 ∷ []) 0 (Rk 0 UC ∷ L 0 0x40 0 true 0 ∷ Op 0 0 Ok ∷ [])
-    ∷ row (0 ∷ []) 0 (D 0 0x40 (word_strobe 0) true (word_line 0 (repeated_word 0x11)) ∷ Op 0 1 Ok ∷ [])
+    ∷ row (0 ∷ []) 0 (D 0 0x40 (word_strobe 0) true (word_line 0 (repeated_word 0x11))
+    ∷ Op 0 1 Ok ∷ [])
     ∷ []

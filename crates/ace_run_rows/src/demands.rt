@@ -27,7 +27,8 @@ pub fn acts_are_made()
     ensures late { follows_so_far loads_plan (reverse acts_at_the_end) ≡ false }
 {}
 
-/// An operation retires with `ok` where what it asked for was issued, or is complete, as it wants; with `skip` where there was nothing to do; and with `fail` where the store can't be made.
+/// An operation retires with `ok` where what it asked for was issued, or is complete, as it wants;
+/// with `skip` where there was nothing to do; and with `fail` where the store can't be made.
 pub fn outcomes_are_met()
     ensures issued_accepted { first_break updates_plan.header issues_no_update ≡ None }
     ensures issued { follows_so_far updates_plan (reverse issues_no_update) ≡ false }
@@ -58,7 +59,8 @@ pub fn lines_have_ways()
     ensures two { follows (two_lines 2) (reverse holds_two_lines) ≡ true }
 {}
 
-/// Snoops are answered as the policy picks: what a cache does that keeps lines isn't what an eager one does.
+/// Snoops are answered as the policy picks: what a cache does that keeps lines isn't what an eager
+/// one does.
 pub fn answers_are_picked()
     ensures keeps { follows cleaning_plan (reverse (events_of cleaning)) ≡ true }
     ensures eager { follows_so_far eager_plan (reverse (events_of cleaning)) ≡ false }

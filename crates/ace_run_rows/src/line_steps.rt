@@ -1,4 +1,5 @@
-//! The steps of the interconnect that serve lines, and bursts that lack something of each: they break no rule, and are no steps.
+//! The steps of the interconnect that serve lines, and bursts that lack something of each: they
+//! break no rule, and are no steps.
 
 ghost use Rattle.std.specs.Prelude.{◌≡◌, true, false, [], ◌∷◌};
 ghost use Rattle.ace_event.specs.declared.event.Channel.TheVariants.{Read, Write};
@@ -11,7 +12,8 @@ ghost use Rattle.ace_run_rows.specs.Shared.{cleaning_plan, cleaning, discards_pl
 /// Step 3: the response of a memory update comes with its write of memory.
 pub fn updates_memory()
     ensures given { is_by 3 updates_plan updates 6 ≡ true }
-    ensures refused { is_refused updates_plan updates 6 0 (M 0 Write 0 (repeated_line 0x11) ∷ []) ≡ true }
+    ensures refused { is_refused updates_plan updates 6 0 (M 0 Write 0 (repeated_line 0x11) ∷ [])
+        ≡ true }
 {}
 
 /// Step 5: the transaction that waited longest for its line is granted first.
@@ -20,7 +22,8 @@ pub fn grants()
     ensures refused { is_refused discards_plan discards 2 1 (G 1 Read 0 ∷ []) ≡ true }
 {}
 
-/// Step 6: a snoop is a step of the port whose transaction it serves, not of the port that is snooped.
+/// Step 6: a snoop is a step of the port whose transaction it serves, not of the port that is
+/// snooped.
 pub fn snoops()
     ensures given { is_by 6 discards_plan discards 6 ≡ true }
     ensures refused { is_refused discards_plan discards 6 0 (Ac 0 0x40 make_invalid ∷ []) ≡ true }
@@ -29,7 +32,8 @@ pub fn snoops()
 /// Step 7: passed data go to memory where the read can't take them; a ReadShared can.
 pub fn saves_passed_data()
     ensures given { is_by 7 cleaning_plan cleaning 8 ≡ true }
-    ensures refused { is_refused passing_plan passing 10 1 (M 1 Read 0 (repeated_line 0x11) ∷ []) ≡ true }
+    ensures refused { is_refused passing_plan passing 10 1 (M 1 Read 0 (repeated_line 0x11) ∷ [])
+        ≡ true }
 {}
 
 /// Step 8: a response says that the line is shared only where it has to.
@@ -41,5 +45,6 @@ pub fn transfers()
 /// Step 9: the response of a write comes with its write of memory.
 pub fn writes()
     ensures given { is_by 9 line_writes_plan line_writes 3 ≡ true }
-    ensures refused { is_refused line_writes_plan line_writes 3 0 (M 0 Write 0 (repeated_line 0x22) ∷ []) ≡ true }
+    ensures refused { is_refused line_writes_plan line_writes 3 0
+        (M 0 Write 0 (repeated_line 0x22) ∷ []) ≡ true }
 {}

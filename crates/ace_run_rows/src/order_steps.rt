@@ -1,4 +1,5 @@
-//! The steps of the interconnect that order, and bursts that lack something of each: they break no rule, and are no steps.
+//! The steps of the interconnect that order, and bursts that lack something of each: they break no
+//! rule, and are no steps.
 
 ghost use Rattle.std.specs.Prelude.{◌≡◌, true, false, [], ◌∷◌};
 ghost use Rattle.ace_codes.specs.declared.state.LineState.TheVariants.{I};
@@ -14,21 +15,27 @@ pub fn answers_barriers()
     ensures refused { is_refused barriers_plan barriers 1 0 (R 0 0 0 true 0 ∷ []) ≡ true }
 {}
 
-/// Step 11: a message goes to each port that hasn't had it, its parts for one port next to each other.
+/// Step 11: a message goes to each port that hasn't had it, its parts for one port next to each
+/// other.
 pub fn forwards()
     ensures given { is_by 11 messages_plan messages 1 ≡ true }
-    ensures refused { is_refused messages_plan messages 1 0 (Ac 1 0x1001 dvm_message ∷ Ac 1 0x12345678 dvm_message ∷ []) ≡ true }
-    ensures refused_also { is_refused messages_plan messages 1 0 (Ac 1 0x1001 dvm_message ∷ Ac 2 0x1001 dvm_message ∷ Ac 1 0x12345678 dvm_message ∷ Ac 2 0x12345678 dvm_message ∷ []) ≡ true }
+    ensures refused { is_refused messages_plan messages 1 0
+        (Ac 1 0x1001 dvm_message ∷ Ac 1 0x12345678 dvm_message ∷ []) ≡ true }
+    ensures refused_also { is_refused messages_plan messages 1 0
+        (Ac 1 0x1001 dvm_message ∷ Ac 2 0x1001 dvm_message ∷ Ac 1 0x12345678 dvm_message
+        ∷ Ac 2 0x12345678 dvm_message ∷ []) ≡ true }
 {}
 
 /// Step 12: one transaction is answered at a time.
 pub fn responds()
     ensures given { is_by 12 messages_plan messages 18 ≡ true }
-    ensures refused { is_refused messages_plan messages 18 1 (R 1 0 0 true 0 ∷ R 2 0 0 true 0 ∷ []) ≡ true }
+    ensures refused { is_refused messages_plan messages 18 1 (R 1 0 0 true 0 ∷ R 2 0 0 true 0 ∷ [])
+        ≡ true }
 {}
 
 /// Step 13: a Sync is completed by itself.
 pub fn completes()
     ensures given { is_by 13 messages_plan messages 20 ≡ true }
-    ensures refused { is_refused messages_plan messages 20 0 (Ac 0 0 dvm_complete ∷ Rk 1 I ∷ []) ≡ true }
+    ensures refused { is_refused messages_plan messages 20 0 (Ac 0 0 dvm_complete ∷ Rk 1 I ∷ [])
+        ≡ true }
 {}

@@ -1,5 +1,5 @@
-//! Tests of systems, of the answers that their masters pick, and of a run with a thread for each port. They stand in a crate of their own, so that
-//! what they test is proved once.
+//! Tests of systems, of the answers that their masters pick, and of a run with a thread for each
+//! port. They stand in a crate of their own, so that what they test is proved once.
 #![tactic(auto)]
 
 #[cfg(test)]

@@ -12,7 +12,8 @@ use rand_pcg::Lcg64Xsh32;
 use std::alloc::Global;
 use std::test::Fail;
 
-/// A transaction that isn't acknowledged: its identifier, its line if it has one, and whether it updates memory.
+/// A transaction that isn't acknowledged: its identifier, its line if it has one, and whether it
+/// updates memory.
 #[derive(Clone, Copy, Debug, PartialEq, Eq)]
 struct Open {
     id: u8,
@@ -27,8 +28,8 @@ struct Pending {
     whole: Vec<Open>,
 }
 
-/// What the trace says of a port: the states of its lines, what is outstanding and what is complete on each channel, the snoops that it hasn't
-/// answered, and how many line snoops it has answered.
+/// What the trace says of a port: the states of its lines, what is outstanding and what is complete
+/// on each channel, the snoops that it hasn't answered, and how many line snoops it has answered.
 #[derive(Drop)]
 struct Port {
     number: u8,
@@ -134,7 +135,8 @@ impl Port {
         Ok(())
     }
 
-    /// Answers the oldest snoop: whether that is the row at the next of the words, if it is a snoop of a line.
+    /// Answers the oldest snoop: whether that is the row at the next of the words, if it is a snoop
+    /// of a line.
     fn answer(&mut self, resp: u8, state: LineState, words: &[u32]) -> Result<bool, Fail> {
         let Some((line, code)) = take_first(&mut self.snoops) else {
             return Ok(false);
@@ -222,7 +224,8 @@ fn port_of(event: &Event) -> u8 {
     }
 }
 
-/// Whether each answer of an ACE port to a line snoop is the row at the next of the words, which begin again when they end.
+/// Whether each answer of an ACE port to a line snoop is the row at the next of the words, which
+/// begin again when they end.
 fn goes_by(alloc: Global, trace: &[Event], words: &[u32]) -> Result<bool, Fail> {
     let mut ports = Vec::new(alloc);
     for number in 0..4u8 {
@@ -275,7 +278,8 @@ fn drained(alloc: Global, n: u64) -> Result<System, Fail> {
     Ok(system)
 }
 
-/// Whether the masters of the plan of n, each with a generator of its own, answer by the words of that of n.
+/// Whether the masters of the plan of n, each with a generator of its own, answer by the words of
+/// that of n.
 fn is_as_drawn(alloc: Global, n: u64) -> Result<bool, Fail> {
     let words = next_words(alloc, &mut Lcg64Xsh32::new(n, 1), 65536)?;
     let system = drained(alloc, n)?;

@@ -36,7 +36,8 @@ macro_rules! w {
 }
 
 macro_rules! l {
-    ($port:expr, $word:expr) => { Event::L { port: $port, addr: 0x40, w: 0, x: false, word: $word } };
+    ($port:expr, $word:expr) => { Event::L { port: $port, addr: 0x40,
+        w: 0, x: false, word: $word } };
 }
 
 macro_rules! op {
@@ -49,7 +50,8 @@ const STORED: u128 = 0x11111111111111111111111111111111;
 
 const WRITTEN: u128 = 0x22222222222222222222222222222222;
 
-/// Turns of ports of the run of a script, each with whether it puts a step; how many events there are then, and the last of them.
+/// Turns of ports of the run of a script, each with whether it puts a step; how many events there
+/// are then, and the last of them.
 struct Turns {
     script: &'static [u8],
     turns: &'static [(u8, bool)],
@@ -279,7 +281,8 @@ fn chosen_run(
     Ok(run)
 }
 
-/// Whether the run is done, begins with the barrier, and has the answer and the load of what the first port stored.
+/// Whether the run is done, begins with the barrier, and has the answer and the load of what the
+/// first port stored.
 fn is_as_picked(system: &System) -> bool {
     system.done()
         && system.trace().starts_with(&[BARRIER])
@@ -287,7 +290,8 @@ fn is_as_picked(system: &System) -> bool {
         && system.trace().contains(&LOADED)
 }
 
-/// The number picks how the first port answers the snoop of its dirty line, and a turn of the second port comes first.
+/// The number picks how the first port answers the snoop of its dirty line, and a turn of the
+/// second port comes first.
 #[test]
 fn takes_chosen_answers_and_turns(rt: HostRuntime) -> Result<(), Fail> {
     let run = chosen_run(rt.alloc(), MIXED, &[7], &[255])?;
@@ -300,7 +304,8 @@ fn takes_chosen_answers_and_turns(rt: HostRuntime) -> Result<(), Fail> {
 /// Gives the only port the operation, and goes on until the run is done.
 fn does(system: &mut System, op: Op)
     requires room { system.old.room ≢ 0 }
-    requires right { IsRightAfter system.old.plan.header system.old.plan.operations (record { port = 0; op = op }) }
+    requires right { IsRightAfter system.old.plan.header system.old.plan.operations
+        (record { port = 0; op = op }) }
     ensures plan { system.new.plan ≡ longer system.old.plan (record { port = 0; op = op }) }
     ensures room { system.new.room ≡ system.old.room - 1 }
 {

@@ -29,13 +29,17 @@ may_begin h past (e ∷ burst) = is_kept h past e
 
 -- an outstanding transaction of the port passes the test
 abbrev pub some_outstanding : Header → Trace → ℕ → (Transaction → Bool) → Bool
-some_outstanding h past p test = some_issued past (λ x. (x.port == p) && is_outstanding h past x && test x)
+some_outstanding h past p test =
+    some_issued past (λ x. (x.port == p) && is_outstanding h past x && test x)
 
--- A step that serves a transaction names the burst for it, which is empty where the transaction isn't one for the step. Such a
--- step is enabled where some outstanding transaction of the port has a burst whose first event breaks no rule, and it gives
--- such a burst.
+-- A step that serves a transaction names the burst for it, which is empty where the transaction
+-- isn't one for the step. Such a step is enabled where some outstanding transaction of the port has
+-- a burst whose first event breaks no rule, and it gives such a burst.
 abbrev pub may_serve : (Header → Trace → Transaction → List Event) → Header → Trace → ℕ → Bool
-may_serve burst_for h past p = some_outstanding h past p (λ x. may_begin h past (burst_for h past x))
+may_serve burst_for h past p =
+    some_outstanding h past p (λ x. may_begin h past (burst_for h past x))
 
-abbrev pub serves : (Header → Trace → Transaction → List Event) → Header → Trace → ℕ → List Event → Bool
-serves burst_for h past p burst = some_outstanding h past p (λ x. same_burst (burst_for h past x) burst)
+abbrev pub serves : (Header → Trace → Transaction → List Event)
+    → Header → Trace → ℕ → List Event → Bool
+serves burst_for h past p burst =
+    some_outstanding h past p (λ x. same_burst (burst_for h past x) burst)

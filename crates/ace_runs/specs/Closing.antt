@@ -53,7 +53,8 @@ closing_of h past p op =
     if may_retire h past p op Ok then retirement past p Ok
     else if may_retire h past p op Skip then retirement past p Skip
     else if may_retire h past p op Fail then retirement past p Fail
-    else if gives_access op (state_named h past p op) then access_and_retirement past p (access_of past p op)
+    else if gives_access op (state_named h past p op)
+    then access_and_retirement past p (access_of past p op)
     else []
 
 -- the burst, and then what ends the operation, if it can end then

@@ -1,5 +1,5 @@
--- When a trace follows a plan. Each demand but that on the end is one on an event after the events before it, so a trace that
--- follows a plan so far does so at each of its points.
+-- When a trace follows a plan. Each demand but that on the end is one on an event after the events
+-- before it, so a trace that follows a plan so far does so at each of its points.
 use Rattle.std.specs.Prelude.{ℕ, ◌≡◌, ◌/◌, ◌%◌, ◌^◌, Bool, true, not, ◌&&◌, ◌==◌, nat_le, nat_lt, [], ◌∷◌, length, slice_get, Option, is_none, ⊤}
 use Rattle.std.specs.List.{list_all}
 use Rattle.ace_codes.specs.declared.state.LineState.{LineState}
@@ -36,13 +36,15 @@ use Rattle.ace_runs.specs.HeldLines.{held_lines}
 
 -- An OP retires the port's next operation, with an outcome that it may have.
 abbrev pub retires_well : Plan → Trace → Event → Bool
-retires_well plan past (Op p k res) = is_some_and (next_operation plan past p) (λ op. may_retire plan.header past p op res)
+retires_well plan past (Op p k res) =
+    is_some_and (next_operation plan past p) (λ op. may_retire plan.header past p op res)
 retires_well plan past _ = true
 
 -- the event is the next act of the port's next operation
 abbrev pub is_next_act : Plan → Trace → Event → ℕ → Bool
 is_next_act plan past e p =
-    is_some_and (next_operation plan past p) (λ op. is_some_and (slice_get (acts_of op) (acts_made past p)) (λ fits. fits e))
+    is_some_and (next_operation plan past p) (λ op. is_some_and
+    (slice_get (acts_of op) (acts_made past p)) (λ fits. fits e))
 
 -- An act is the next one of its port's next operation.
 abbrev pub acts_well : Plan → Trace → Event → Bool
@@ -50,16 +52,19 @@ acts_well plan past e = implies (is_act e) (is_some_and (port_of e) (is_next_act
 
 -- beat k of the line, with its strobes
 abbrev pub is_beat_of : ℕ → ℕ → ℕ → ℕ × Line → Bool
-is_beat_of k strb word carried = (strb == carried.0 / 65536 ^ k % 65536) && (word == word_of carried.1 k)
+is_beat_of k strb word carried =
+    (strb == carried.0 / 65536 ^ k % 65536) && (word == word_of carried.1 k)
 
 abbrev pub carries : Plan → Trace → ℕ → ℕ → ℕ → Transaction → Bool
 carries plan past p strb word x =
     implies (stores_data x) (is_some_and (operation_behind plan past x)
     (λ op. is_some_and (data_of_operation op) (is_beat_of (next_write_beat past p) strb word)))
 
--- A W of a WriteUnique, WriteLineUnique or WriteNoSnoop carries the data of the operation for which that was issued.
+-- A W of a WriteUnique, WriteLineUnique or WriteNoSnoop carries the data of the operation for which
+-- that was issued.
 abbrev pub carries_data : Plan → Trace → Event → Bool
-carries_data plan past (W p strb last word) = is_none_or (next_write past p) (carries plan past p strb word)
+carries_data plan past (W p strb last word) =
+    is_none_or (next_write past p) (carries plan past p strb word)
 carries_data plan past _ = true
 
 abbrev pub is_row : Option Row → ℕ → LineState → Bool
@@ -74,7 +79,8 @@ is_picked (Mixed n) k held update resp st = true
 abbrev pub picks : Plan → Trace → ℕ → ℕ → LineState → Snoop → Bool
 picks plan past p resp st s =
     is_none_or (ac_kind_of s.snoop) (λ k. implies (is_line_snoop k)
-    (is_picked plan.policy k (state_of plan.header past p s.addr) (has_update plan.header past p s.addr) resp st))
+    (is_picked plan.policy k (state_of plan.header past p s.addr)
+    (has_update plan.header past p s.addr) resp st))
 
 -- A CR to a line snoop is the row that the plan's policy picks.
 abbrev pub answers_well : Plan → Trace → Event → Bool
@@ -89,7 +95,8 @@ has_room_after plan past e =
 -- after the trace, the event is one of a trace that follows the plan
 abbrev pub obeys : Plan → Trace → Event → Bool
 obeys plan past e =
-    retires_well plan past e && acts_well plan past e && carries_data plan past e && answers_well plan past e
+    retires_well plan past e && acts_well plan past e && carries_data plan past e
+    && answers_well plan past e
     && has_room_after plan past e
 
 -- the test holds of each event after the events before it
@@ -112,15 +119,19 @@ follows_so_far plan past = each_event (obeys plan) past
 abbrev pub owes_completion : Trace → ℕ → Bool
 owes_completion past p = nat_lt (dvm_completes past p) (answered_syncs past p)
 
--- nothing is left to do for the port: its operations have retired, it has answered its snoops, and it owes no DVM Complete
+-- nothing is left to do for the port: its operations have retired, it has answered its snoops, and
+-- it owes no DVM Complete
 abbrev pub is_port_at_end : Plan → Trace → ℕ → Bool
 is_port_at_end plan past p =
-    nat_le (length (operations_of plan p)) (retired past p) && is_none (answered past p) && not (owes_completion past p)
+    nat_le (length (operations_of plan p)) (retired past p) && is_none (answered past p)
+    && not (owes_completion past p)
 
--- every operation has its OP, no transaction is outstanding, no AC is unanswered, and no DVM Complete is owed
+-- every operation has its OP, no transaction is outstanding, no AC is unanswered, and no DVM
+-- Complete is owed
 abbrev pub is_done : Plan → Trace → Bool
 is_done plan past =
-    list_all (is_port_at_end plan past) (ports_below plan.header.ports) && not (some_issued past (is_outstanding plan.header past))
+    list_all (is_port_at_end plan past) (ports_below plan.header.ports)
+    && not (some_issued past (is_outstanding plan.header past))
 
 abbrev pub Done : Plan → Trace → Type 0
 Done plan past = is_done plan past ≡ true

@@ -41,4 +41,5 @@ with_line (Some l) state lines = if is_invalid (state l) then others l lines els
 abbrev pub held_lines : Header → Trace → ℕ → List ℕ
 held_lines h [] p = []
 held_lines h (e ∷ past) p =
-    if is_at_port p e then with_line (line_told past e) (state_of h (e ∷ past) p) (held_lines h past p) else held_lines h past p
+    if is_at_port p e then with_line (line_told past e) (state_of h (e ∷ past) p)
+    (held_lines h past p) else held_lines h past p

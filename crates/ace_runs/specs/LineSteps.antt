@@ -1,5 +1,6 @@
--- The steps of the interconnect that serve lines: memory updates, grants, snoops, responses and writes of memory. Each names the
--- burst for a transaction; whether that may come now is a matter of the rules.
+-- The steps of the interconnect that serve lines: memory updates, grants, snoops, responses and
+-- writes of memory. Each names the burst for a transaction; whether that may come now is a matter
+-- of the rules.
 use Rattle.std.specs.Prelude.{ℕ, ◌+◌, Bool, not, ◌&&◌, ◌==◌, nat_lt, if◌then◌else◌, List, [], ◌∷◌, ◌++◌, map}
 use Rattle.std.specs.List.{list_all, list_any}
 use Rattle.std.specs.Option.{option_to_list}
@@ -33,7 +34,8 @@ response x = B x.port x.id 0 ∷ []
 -- step 3: M and B for a memory update, B for an Evict
 abbrev pub update_burst : Header → Trace → Transaction → List Event
 update_burst h past x =
-    if updates_memory x then memory_write h past x ++ response x else if evicts x then response x else []
+    if updates_memory x then memory_write h past x ++ response x
+    else if evicts x then response x else []
 
 -- the transaction waits for its line
 abbrev pub waits : Header → Trace → Transaction → Bool
@@ -42,11 +44,13 @@ waits h past x = takes_grant x && is_outstanding h past x && not (has_grant past
 -- no older transaction waits for the line, but for those that barriers hold
 abbrev pub is_first_to_wait : Header → Trace → Transaction → Bool
 is_first_to_wait h past x =
-    each_issued past (λ y. not (is_on y x.addr && nat_lt y.place x.place && waits h past y && is_past_barriers past y))
+    each_issued past (λ y. not (is_on y x.addr && nat_lt y.place x.place
+    && waits h past y && is_past_barriers past y))
 
 -- step 5: G
 abbrev pub grant_burst : Header → Trace → Transaction → List Event
-grant_burst h past x = if takes_grant x && is_first_to_wait h past x then G x.port x.chan x.id ∷ [] else []
+grant_burst h past x =
+    if takes_grant x && is_first_to_wait h past x then G x.port x.chan x.id ∷ [] else []
 
 -- the snoop of a port for the granted transaction
 abbrev pub snoop_for : Transaction → SnoopKind → ℕ → Event
@@ -59,15 +63,19 @@ is_snoop_for x k e = is_some_and (port_of e) (λ q. same_event e (snoop_for x k 
 -- step 6: AC to any one or more of the ports that may be snooped
 abbrev pub may_snoop : Header → Trace → ℕ → Bool
 may_snoop h past p =
-    some_outstanding h past p (λ x. is_granted h past x && is_some_and (snoop_of x) (λ k. list_any (λ q. is_kept h past (snoop_for x k q)) (ports_below h.ports)))
+    some_outstanding h past p (λ x. is_granted h past x && is_some_and (snoop_of x) (λ k. list_any
+    (λ q. is_kept h past (snoop_for x k q)) (ports_below h.ports)))
 
 abbrev pub gives_snoops : Header → Trace → ℕ → List Event → Bool
 gives_snoops h past p burst =
-    some_outstanding h past p (λ x. is_granted h past x && is_some_and (snoop_of x) (λ k. list_all (is_snoop_for x k) burst))
+    some_outstanding h past p (λ x. is_granted h past x
+    && is_some_and (snoop_of x) (λ k. list_all (is_snoop_for x k) burst))
 
--- a read of this kind can take passed data: its response may say PassDirty beside what it has to say
+-- a read of this kind can take passed data: its response may say PassDirty beside what it has to
+-- say
 abbrev pub can_take : Header → Trace → Transaction → ArKind → Bool
-can_take h past x k = takes_passed_data k && not (is_read_not_shared_dirty k && has_sharer h past x.addr)
+can_take h past x k =
+    takes_passed_data k && not (is_read_not_shared_dirty k && has_sharer h past x.addr)
 
 abbrev pub takes_dirt : Header → Trace → Transaction → Bool
 takes_dirt h past x = is_some_and (read_kind x) (can_take h past x)
@@ -75,21 +83,25 @@ takes_dirt h past x = is_some_and (read_kind x) (can_take h past x)
 -- step 7: M of passed data that the read can't take
 abbrev pub passed_burst : Header → Trace → Transaction → List Event
 passed_burst h past x =
-    if is_read x.chan && has_passed_data h past x && not (takes_dirt h past x) then memory_write h past x else []
+    if is_read x.chan && has_passed_data h past x && not (takes_dirt h past x)
+    then memory_write h past x else []
 
 abbrev pub bit_if : ℕ → Bool → ℕ
 bit_if n test = if test then n else 0
 
--- RRESP: PassDirty where there are passed data, IsShared only where it must be, and EXOKAY where it has to be
+-- RRESP: PassDirty where there are passed data, IsShared only where it must be, and EXOKAY where it
+-- has to be
 abbrev pub response_bits : Header → Trace → Transaction → ℕ
 response_bits h past x =
-    bit_if 4 (has_passed_data h past x) + bit_if 8 (is_some_and (read_kind x) (must_be_shared h past x)) + bit_if 1 (is_exclusive_okay past x)
+    bit_if 4 (has_passed_data h past x) + bit_if 8 (is_some_and (read_kind x)
+    (must_be_shared h past x)) + bit_if 1 (is_exclusive_okay past x)
 
 abbrev pub is_last_beat : Trace → Transaction → Bool
 is_last_beat past x = is_some_and (read_kind x) (λ k. transfers past x.port x.id + 1 == beats_of k)
 
 abbrev pub next_word : Trace → Transaction → ℕ
-next_word past x = if is_line_read_transaction x then word_of (reply_of past x) (transfers past x.port x.id) else 0
+next_word past x =
+    if is_line_read_transaction x then word_of (reply_of past x) (transfers past x.port x.id) else 0
 
 -- step 8: one R of a granted read; passed data, if there are any, can be taken
 abbrev pub transfer_burst : Header → Trace → Transaction → List Event
@@ -100,4 +112,5 @@ transfer_burst h past x =
 
 -- step 9: M and B of a granted write
 abbrev pub write_burst : Header → Trace → Transaction → List Event
-write_burst h past x = if not (is_read x.chan) && takes_grant x then memory_write h past x ++ response x else []
+write_burst h past x =
+    if not (is_read x.chan) && takes_grant x then memory_write h past x ++ response x else []

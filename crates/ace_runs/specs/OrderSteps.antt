@@ -27,17 +27,21 @@ pair_burst (Some b) = plain_transfer b.read ∷ B b.write.port b.write.id 0 ∷ 
 
 -- step 10: R and B of a barrier pair
 abbrev pub barrier_burst : Header → Trace → Transaction → List Event
-barrier_burst h past x = if is_some_and (read_kind x) is_read_barrier then pair_burst (pair_of past x) else []
+barrier_burst h past x =
+    if is_some_and (read_kind x) is_read_barrier then pair_burst (pair_of past x) else []
 
--- the parts of the DVM message that is issued with this part; there are none where a second part is to follow
+-- the parts of the DVM message that is issued with this part; there are none where a second part is
+-- to follow
 abbrev pub message_of : Trace → Transaction → List Transaction
 message_of past x = parts_with (first_waiting (at_point x.place past) x.port) x
 
 -- the parts of it that the port hasn't had
 abbrev pub parts_missing : Trace → Transaction → ℕ → List Transaction
-parts_missing past x q = filter (λ y. not (has_part (parts_among (forwarded past q)) y)) (message_of past x)
+parts_missing past x q =
+    filter (λ y. not (has_part (parts_among (forwarded past q)) y)) (message_of past x)
 
--- what the port is to get of the message: the ACs that are missing, where it is the next for the port
+-- what the port is to get of the message: the ACs that are missing, where it is the next for the
+-- port
 abbrev pub forwarded_to : Header → Trace → Transaction → ℕ → List Event
 forwarded_to h past x q =
     if is_other_ace h x.port q && is_some_and (next_part past q) (has_part (message_of past x))
@@ -54,7 +58,8 @@ begins_at e (f ∷ burst) = is_none_or (port_of e) (λ q. is_at_port q f)
 abbrev pub is_by_port : List Event → Bool
 is_by_port [] = true
 is_by_port (e ∷ burst) =
-    (begins_at e burst || is_none_or (port_of e) (λ q. not (list_any (is_at_port q) burst))) && is_by_port burst
+    (begins_at e burst || is_none_or (port_of e) (λ q. not (list_any (is_at_port q) burst)))
+    && is_by_port burst
 
 -- the events of the port are what it is to get of the message
 abbrev pub gets_message : Header → Trace → Transaction → List Event → ℕ → Bool
@@ -63,11 +68,13 @@ gets_message h past x burst q = same_burst (filter (is_at_port q) burst) (forwar
 -- step 11: AC of the parts of a message to each port that is to get them
 abbrev pub may_forward : Header → Trace → ℕ → Bool
 may_forward h past p =
-    some_issued past (λ x. is_part_of p x && list_any (λ q. may_begin h past (forwarded_to h past x q)) (ports_below h.ports))
+    some_issued past (λ x. is_part_of p x
+    && list_any (λ q. may_begin h past (forwarded_to h past x q)) (ports_below h.ports))
 
 abbrev pub forwards : Header → Trace → ℕ → List Event → Bool
 forwards h past p burst =
-    is_by_port burst && some_issued past (λ x. is_part_of p x && list_all (gets_message h past x burst) (ports_below h.ports))
+    is_by_port burst && some_issued past (λ x. is_part_of p x
+    && list_all (gets_message h past x burst) (ports_below h.ports))
 
 -- step 12: R of a part of a DVM message, or of a DVM Complete
 abbrev pub dvm_burst : Header → Trace → Transaction → List Event

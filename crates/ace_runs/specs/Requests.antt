@@ -48,7 +48,8 @@ pub data Request : Type 0 where
 
 -- a port gives a line up before it goes past its cache: a dirty line is written back
 abbrev pub gives_up_first : ℕ → LineState → Request → Request
-gives_up_first a st next = if is_invalid st then next else if is_dirty st then Writes write.WriteBack a else Drops a
+gives_up_first a st next =
+    if is_invalid st then next else if is_dirty st then Writes write.WriteBack a else Drops a
 
 -- a dirty line is written to memory first
 abbrev pub cleans_first : ℕ → LineState → Request → Request
@@ -84,7 +85,8 @@ request_of (Dvm word) st = Reads read.DvmMessage word false
 request_of (Sync word) st = Reads read.DvmMessage word false
 request_of (Dvm2 word second) st = Messages word second
 
--- ---- identifiers -------------------------------------------------------------------------------------
+-- ---- identifiers
+-- -------------------------------------------------------------------------------------
 
 -- the first number below n that passes the test
 abbrev pub least_below : ℕ → (ℕ → Bool) → Option ℕ
@@ -102,9 +104,11 @@ abbrev pub free_on : Header → Trace → ℕ → Channel → Option ℕ
 free_on h past p c = least_below identifiers (is_free h past p c)
 
 abbrev pub free_on_both : Header → Trace → ℕ → Option ℕ
-free_on_both h past p = least_below identifiers (λ i. is_free h past p Read i && is_free h past p Write i)
+free_on_both h past p =
+    least_below identifiers (λ i. is_free h past p Read i && is_free h past p Write i)
 
--- ---- the bursts by which a port asks -----------------------------------------------------------------
+-- ---- the bursts by which a port asks
+-- -----------------------------------------------------------------
 
 abbrev pub with_identifier : Option ℕ → (ℕ → List Event) → List (List Event)
 with_identifier i burst = map burst (option_to_list i)
@@ -115,41 +119,52 @@ domain_for no_snoop = if no_snoop then 0 else 1
 
 abbrev pub read_bursts : Header → Trace → ℕ → ArKind → ℕ → Bool → List (List Event)
 read_bursts h past p k a lock =
-    with_identifier (free_on h past p Read) (λ i. event.Ar p i a (ar_code k) (domain_for (is_no_snoop_read k)) 0 lock ∷ [])
+    with_identifier (free_on h past p Read) (λ i. event.Ar p i a
+    (ar_code k) (domain_for (is_no_snoop_read k)) 0 lock ∷ [])
 
 abbrev pub write_bursts : Header → Trace → ℕ → AwKind → ℕ → List (List Event)
 write_bursts h past p k a =
     if keeps_apart h past p k
-    then with_identifier (free_on h past p Write) (λ i. event.Aw p i a (aw_code k) (domain_for (is_no_snoop_write k)) 0 ∷ [])
+    then with_identifier (free_on h past p Write)
+    (λ i. event.Aw p i a (aw_code k) (domain_for (is_no_snoop_write k)) 0 ∷ [])
     else []
 
 abbrev pub barrier_halves : ℕ → ℕ → ℕ → List Event
-barrier_halves p bar i = event.Ar p i 0 (ar_code read.Barrier) 1 bar false ∷ event.Aw p i 0 (aw_code write.Barrier) 1 bar ∷ []
+barrier_halves p bar i =
+    event.Ar p i 0 (ar_code read.Barrier) 1 bar false
+    ∷ event.Aw p i 0 (aw_code write.Barrier) 1 bar ∷ []
 
 abbrev pub barrier_bursts : Header → Trace → ℕ → ℕ → List (List Event)
 barrier_bursts h past p bar = with_identifier (free_on_both h past p) (barrier_halves p bar)
 
--- the AR of the part that comes after these events, which takes the least identifier that is free after them
+-- the AR of the part that comes after these events, which takes the least identifier that is free
+-- after them
 abbrev pub and_part : Header → Trace → ℕ → ℕ → List Event → List (List Event)
-and_part h past p word burst = map (λ part. burst ++ part) (read_bursts h (onto burst past) p read.DvmMessage word false)
+and_part h past p word burst =
+    map (λ part. burst ++ part) (read_bursts h (onto burst past) p read.DvmMessage word false)
 
 -- both parts at once: two identifiers have to be free
 abbrev pub message_bursts : Header → Trace → ℕ → ℕ → ℕ → List (List Event)
-message_bursts h past p word second = flat_map (and_part h past p second) (and_part h past p word [])
+message_bursts h past p word second =
+    flat_map (and_part h past p second) (and_part h past p word [])
 
 abbrev pub drop_bursts : ℕ → ℕ → List (List Event)
 drop_bursts p a = (event.S p a I ∷ []) ∷ []
 
 -- how the port makes room by giving this line up: it writes a dirty line back
 abbrev pub victim_bursts : Header → Trace → ℕ → ℕ → List (List Event)
-victim_bursts h past p a = if is_dirty (state_of h past p a) then write_bursts h past p write.WriteBack a else drop_bursts p a
+victim_bursts h past p a =
+    if is_dirty (state_of h past p a) then write_bursts h past p write.WriteBack a
+    else drop_bursts p a
 
--- The bursts that make room: one for each line that isn't busy. There are none, whichever line would be given up, while no
--- identifier is free for a write, and while a WriteUnique or WriteLineUnique of the port is outstanding.
+-- The bursts that make room: one for each line that isn't busy. There are none, whichever line
+-- would be given up, while no identifier is free for a write, and while a WriteUnique or
+-- WriteLineUnique of the port is outstanding.
 abbrev pub room_bursts : Header → Trace → ℕ → List (List Event)
 room_bursts h past p =
     if is_none (free_on h past p Write) || has_write h past p is_unique_write then []
-    else flat_map (victim_bursts h past p) (filter (λ a. not (has_outstanding_on h past p a)) (held_lines h past p))
+    else flat_map (victim_bursts h past p) (filter (λ a. not (has_outstanding_on h past p a))
+    (held_lines h past p))
 
 -- the port holds fewer lines than there are ways
 abbrev pub has_room : ℕ → Header → Trace → ℕ → Bool
@@ -158,29 +173,38 @@ has_room ways h past p = nat_lt (length (held_lines h past p)) ways
 -- the bursts by which the port may ask, if it can
 abbrev pub bursts_of : ℕ → Header → Trace → ℕ → Request → List (List Event)
 bursts_of ways h past p (Reads k a lock) = read_bursts h past p k a lock
-bursts_of ways h past p (Misses k a lock) = if has_room ways h past p then read_bursts h past p k a lock else room_bursts h past p
+bursts_of ways h past p (Misses k a lock) =
+    if has_room ways h past p then read_bursts h past p k a lock else room_bursts h past p
 bursts_of ways h past p (Writes k a) = write_bursts h past p k a
 bursts_of ways h past p (Drops a) = drop_bursts p a
 bursts_of ways h past p (Barriers bar) = barrier_bursts h past p bar
 bursts_of ways h past p (Messages word second) = message_bursts h past p word second
 
--- ---- how an operation goes on ------------------------------------------------------------------------
+-- ---- how an operation goes on
+-- ------------------------------------------------------------------------
 
 -- a memory update that the port issued for the operation is outstanding
 abbrev pub awaits_update : Header → Trace → ℕ → Bool
-awaits_update h past p = list_any (λ x. updates_memory x && is_outstanding h past x) (segment past p)
+awaits_update h past p =
+    list_any (λ x. updates_memory x && is_outstanding h past x) (segment past p)
 
--- the operation has to wait: a transaction of the port on its line is outstanding, or an update that it awaits, or its own
--- transaction was issued
+-- the operation has to wait: a transaction of the port on its line is outstanding, or an update
+-- that it awaits, or its own transaction was issued
 abbrev pub is_waiting : Header → Trace → ℕ → Op → Bool
 is_waiting h past p op =
-    is_some_and (line_named op) (has_outstanding_on h past p) || awaits_update h past p || not (acts_made past p == 0)
+    is_some_and (line_named op) (has_outstanding_on h past p) || awaits_update h past p
+    || not (acts_made past p == 0)
 
--- what ends the operation, if it can end, else the bursts by which it asks, each with what ends the operation then
+-- what ends the operation, if it can end, else the bursts by which it asks, each with what ends the
+-- operation then
 abbrev pub ends_or_asks : ℕ → Header → Trace → ℕ → Op → List Event → List (List Event)
-ends_or_asks ways h past p op [] = map (and_closing h past p op) (bursts_of ways h past p (request_of op (state_named h past p op)))
+ends_or_asks ways h past p op [] =
+    map (and_closing h past p op) (bursts_of ways h past p
+    (request_of op (state_named h past p op)))
 ends_or_asks ways h past p op end = end ∷ []
 
--- The bursts by which the operation can go on: one, or one for each line that may be given up, or none.
+-- The bursts by which the operation can go on: one, or one for each line that may be given up, or
+-- none.
 abbrev pub moves_of : ℕ → Header → Trace → ℕ → Op → List (List Event)
-moves_of ways h past p op = if is_waiting h past p op then [] else ends_or_asks ways h past p op (closing_of h past p op)
+moves_of ways h past p op =
+    if is_waiting h past p op then [] else ends_or_asks ways h past p op (closing_of h past p op)

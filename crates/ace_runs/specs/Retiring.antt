@@ -34,16 +34,20 @@ tells_completion s = is_some_and (ac_kind_of s.snoop) is_complete_snoop
 
 -- the port's last Sync has had its AC DVM Complete, and the port has answered it
 abbrev pub has_answered_completion : Trace → ℕ → Bool
-has_answered_completion past p = is_sync_completed past p && not (list_any tells_completion (unanswered past p))
+has_answered_completion past p =
+    is_sync_completed past p && not (list_any tells_completion (unanswered past p))
 
 -- no act of the segment is an outstanding transaction
 abbrev pub are_acts_done : Header → Trace → ℕ → Bool
-are_acts_done h past p = list_all (λ x. implies (is_act_transaction x) (not (is_outstanding h past x))) (segment past p)
+are_acts_done h past p =
+    list_all (λ x. implies (is_act_transaction x) (not (is_outstanding h past x))) (segment past p)
 
--- What holds beside the acts where the operation retires with `ok`. A fetch has had its RK, a memory update or Evict was issued,
--- and a Sync is complete; a WriteUnique or WriteLineUnique need not be; all other transactions are.
+-- What holds beside the acts where the operation retires with `ok`. A fetch has had its RK, a
+-- memory update or Evict was issued, and a Sync is complete; a WriteUnique or WriteLineUnique need
+-- not be; all other transactions are.
 abbrev pub is_met : Header → Trace → ℕ → Op → Bool
-is_met h past p (Pf a k) = list_any (λ x. is_read_of k a x && not (is_outstanding h past x)) (segment past p)
+is_met h past p (Pf a k) =
+    list_any (λ x. is_read_of k a x && not (is_outstanding h past x)) (segment past p)
 is_met h past p (Wb a) = has_written past p write.WriteBack a
 is_met h past p (Wc a) = has_written past p write.WriteClean a
 is_met h past p (Ev a) = has_written past p write.Evict a
@@ -57,7 +61,8 @@ is_met h past p _ = are_acts_done h past p
 abbrev pub has_read : Trace → ℕ → ℕ → Bool
 has_read past p a = list_any (λ x. is_read x.chan && is_on x a) (segment past p)
 
--- The operation finds nothing to do: the line to fetch is there already, or the line isn't in a state to be written back or given up.
+-- The operation finds nothing to do: the line to fetch is there already, or the line isn't in a
+-- state to be written back or given up.
 abbrev pub may_skip : Header → Trace → ℕ → Op → Bool
 may_skip h past p (Pf a k) = not (is_invalid (state_of h past p a)) && not (has_read past p a)
 may_skip h past p (Wb a) = not (starts_write write.WriteBack (state_of h past p a))
@@ -69,13 +74,16 @@ may_skip h past p _ = false
 -- the exclusive store failed: at its G its port wasn't registered
 abbrev pub was_refused : Trace → Transaction → Bool
 was_refused [] x = false
-was_refused (e ∷ past) x = (is_transaction (given past e) x && not (store_passes past x)) || was_refused past x
+was_refused (e ∷ past) x =
+    (is_transaction (given past e) x && not (store_passes past x)) || was_refused past x
 
 -- an exclusive store of the segment on the line failed
 abbrev pub has_failed_store : Trace → ℕ → ℕ → Bool
-has_failed_store past p a = list_any (λ x. is_exclusive_store x && (x.addr == a) && was_refused past x) (segment past p)
+has_failed_store past p a =
+    list_any (λ x. is_exclusive_store x && (x.addr == a) && was_refused past x) (segment past p)
 
--- The exclusive store can't be made any more: the port's monitor isn't set for the line, or the interconnect refused the store.
+-- The exclusive store can't be made any more: the port's monitor isn't set for the line, or the
+-- interconnect refused the store.
 abbrev pub may_fail : Header → Trace → ℕ → Op → Bool
 may_fail h past p (Stx a w word) = not (is_monitored h past p a) || has_failed_store past p a
 may_fail h past p _ = false

@@ -19,14 +19,16 @@ pub record StepKind : Type 0 where
   pub is_enabled : Header → Trace → ℕ → Bool
   pub gives : Header → Trace → ℕ → List Event → Bool
 
-abbrev pub step : ℕ → (Header → Trace → ℕ → Bool) → (Header → Trace → ℕ → List Event → Bool) → StepKind
+abbrev pub step : ℕ → (Header → Trace → ℕ → Bool)
+    → (Header → Trace → ℕ → List Event → Bool) → StepKind
 step n is_enabled gives = record { number = n; is_enabled = is_enabled; gives = gives }
 
 -- a step that serves a transaction
 abbrev pub service : ℕ → (Header → Trace → Transaction → List Event) → StepKind
 service n burst_for = step n (may_serve burst_for) (serves burst_for)
 
--- The fourteen steps of a port with so many ways and this next operation, at which two of them look.
+-- The fourteen steps of a port with so many ways and this next operation, at which two of them
+-- look.
 abbrev pub steps : ℕ → Option Op → List StepKind
 steps ways next =
     step 1 may_answer_snoop answers_snoop
@@ -53,7 +55,8 @@ has_number numbers s = list_any (λ n. n == s.number) numbers
 
 -- a step of one of these numbers is enabled for the port
 abbrev pub is_enabled_by : List ℕ → Plan → Trace → ℕ → Bool
-is_enabled_by numbers plan past p = list_any (λ s. has_number numbers s && s.is_enabled plan.header past p) (steps_of plan past p)
+is_enabled_by numbers plan past p =
+    list_any (λ s. has_number numbers s && s.is_enabled plan.header past p) (steps_of plan past p)
 
 -- a step is enabled for the port
 abbrev pub is_enabled : Plan → Trace → ℕ → Bool
@@ -64,7 +67,8 @@ most_events = 16
 
 -- one to sixteen events, none of which breaks a rule
 abbrev pub is_sound : Header → Trace → List Event → Bool
-is_sound h past burst = nat_le 1 (length burst) && nat_le (length burst) most_events && are_kept h past burst
+is_sound h past burst =
+    nat_le 1 (length burst) && nat_le (length burst) most_events && are_kept h past burst
 
 -- the step is enabled for the port, and gives the burst
 abbrev pub may_give : Header → Trace → ℕ → List Event → StepKind → Bool
@@ -74,12 +78,14 @@ may_give h past p burst s = s.is_enabled h past p && s.gives h past p burst
 abbrev pub is_step_by : List ℕ → Plan → Trace → ℕ → List Event → Bool
 is_step_by numbers plan past p burst =
     is_sound plan.header past burst
-    && list_any (λ s. has_number numbers s && may_give plan.header past p burst s) (steps_of plan past p)
+    && list_any (λ s. has_number numbers s && may_give plan.header past p burst s)
+    (steps_of plan past p)
 
 -- the burst is one that a step gives which is enabled for the port
 abbrev pub is_step : Plan → Trace → ℕ → List Event → Bool
 is_step plan past p burst =
-    is_sound plan.header past burst && list_any (may_give plan.header past p burst) (steps_of plan past p)
+    is_sound plan.header past burst && list_any (may_give plan.header past p burst)
+    (steps_of plan past p)
 
 -- A step of the plan is enabled for the port.
 abbrev pub Enabled : Plan → Trace → ℕ → Type 0
@@ -95,7 +101,8 @@ pub record Turn : Type 0 where
   pub burst : List Event
 
 abbrev pub after_turn : Plan → Turn → Trace → Option Trace
-after_turn plan turn past = if is_step plan past turn.port turn.burst then Some (onto turn.burst past) else None
+after_turn plan turn past =
+    if is_step plan past turn.port turn.burst then Some (onto turn.burst past) else None
 
 -- the trace that the turns make, the last turn first, if each of them is a step
 abbrev pub run_of : Plan → List Turn → Option Trace

@@ -71,7 +71,8 @@ word_of field = number_of 32 field
 abbrev pub strobe_of : List ℕ → Result ℕ Reason
 strobe_of field = number_of 16 field
 
--- the word of a DVM message of one part, of a Sync, of the first part of two, and of the second part
+-- the word of a DVM message of one part, of a Sync, of the first part of two, and of the second
+-- part
 abbrev pub lone_word_of : List ℕ → Result ℕ Reason
 lone_word_of field = if_in is_lone_word (number_of 8 field)
 
@@ -99,7 +100,8 @@ word_behind count field = digits_onto 0 (take 32 (drop count field))
 unfoldable pub line_of : List ℕ → Result Line Reason
 line_of field =
     if length field == 128
-    then line_in (word_behind 0 field) (word_behind 32 field) (word_behind 64 field) (word_behind 96 field)
+    then line_in (word_behind 0 field) (word_behind 32 field) (word_behind 64 field)
+    (word_behind 96 field)
     else Err P4
 
 -- the letter of a read ahead
@@ -137,9 +139,11 @@ no_field (a ∷ fields) = Err P3
 abbrev pub one_field : {A : Type 0} → (List ℕ → Result A Reason) → List (List ℕ) → Result A Reason
 one_field f fields = of_fields f (alone fields)
 
-abbrev pub two_fields : {A B : Type 0} → (List ℕ → Result A Reason) → (List ℕ → Result B Reason) → List (List ℕ) → Result (A × B) Reason
+abbrev pub two_fields : {A B : Type 0} → (List ℕ → Result A Reason)
+    → (List ℕ → Result B Reason) → List (List ℕ) → Result (A × B) Reason
 two_fields f g fields = of_fields (λ x. both (f x.0) (g x.1)) (pair fields)
 
-abbrev pub three_fields : {A B C : Type 0} → (List ℕ → Result A Reason) → (List ℕ → Result B Reason) → (List ℕ → Result C Reason)
+abbrev pub three_fields : {A B C : Type 0} → (List ℕ → Result A Reason)
+    → (List ℕ → Result B Reason) → (List ℕ → Result C Reason)
     → List (List ℕ) → Result (A × (B × C)) Reason
 three_fields f g h fields = of_fields (λ x. both (f x.0) (both (g x.1.0) (h x.1.1))) (triple fields)

@@ -52,7 +52,8 @@ ace_op pick x y =
 abbrev pub lite_op : ℕ → ℕ → ℕ → Op
 lite_op pick x y =
     if nat_le pick 3 then Ro (snooped_address x)
-    else (if nat_le pick 6 then Wu (snooped_address x) (0xffff * 2 ^ (16 * drawn_place x)) (repeated_line y)
+    else (if nat_le pick 6 then Wu (snooped_address x) (0xffff * 2 ^ (16 * drawn_place x))
+    (repeated_line y)
     else (if nat_le pick 9 then Wlu (snooped_address x) (repeated_line y)
     else (if pick == 10 then Cs (snooped_address x)
     else (if pick == 11 then Ci (snooped_address x)
@@ -64,13 +65,18 @@ lite_op pick x y =
 -- the operation of two words of the generator
 unfoldable pub drawn_operation : ℕ → ℕ → PlanOp
 drawn_operation x y =
-    record { port = x % 4; op = if x % 4 == 3 then lite_op (x / 256 % 16) x y else ace_op (x / 256 % 16) x y }
+    record {
+      port = x % 4;
+      op = if x % 4 == 3 then lite_op (x / 256 % 16) x y
+          else ace_op (x / 256 % 16) x y;
+    }
 
 -- so many operations, each of the generator's next two words
 unfoldable pub drawn : ℕ → Lcg → List PlanOp
 drawn zero words = []
 drawn (suc count) words =
-    drawn_operation (pcg32 words).0 (pcg32 (pcg32 words).1).0 ∷ drawn count (pcg32 (pcg32 words).1).1
+    drawn_operation (pcg32 words).0 (pcg32 (pcg32 words).1).0
+    ∷ drawn count (pcg32 (pcg32 words).1).1
 
 -- how many operations a generated plan has
 abbrev pub generated_count : ℕ

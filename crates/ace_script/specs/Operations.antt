@@ -22,7 +22,11 @@ order_rows =
     ∷ (codes "sb", λ fields. made (λ _. Sb) (no_field fields))
     ∷ (codes "dvm", λ fields. made (λ word. Dvm word) (one_field lone_word_of fields))
     ∷ (codes "sync", λ fields. made (λ word. Sync word) (one_field sync_word_of fields))
-    ∷ (codes "dvm2", λ fields. made (λ x. Dvm2 x.0 x.1) (two_fields first_word_of second_word_of fields))
+    ∷ (
+      codes "dvm2",
+      λ fields. made (λ x. Dvm2 x.0 x.1)
+          (two_fields first_word_of second_word_of fields),
+    )
     ∷ []
 
 -- with those that bring no line into a cache
@@ -33,9 +37,17 @@ uncached_rows =
     ∷ (codes "ci", λ fields. made (λ a. Ci a) (one_field address_of fields))
     ∷ (codes "mi", λ fields. made (λ a. Mi a) (one_field address_of fields))
     ∷ (codes "rn", λ fields. made (λ a. Rn a) (one_field address_of fields))
-    ∷ (codes "wu", λ fields. made (λ x. Wu x.0 x.1.0 x.1.1) (three_fields address_of strobe_of line_of fields))
+    ∷ (
+      codes "wu",
+      λ fields. made (λ x. Wu x.0 x.1.0 x.1.1)
+          (three_fields address_of strobe_of line_of fields),
+    )
     ∷ (codes "wlu", λ fields. made (λ x. Wlu x.0 x.1) (two_fields address_of line_of fields))
-    ∷ (codes "wn", λ fields. made (λ x. Wn x.0 x.1.0 x.1.1) (three_fields address_of strobe_of line_of fields))
+    ∷ (
+      codes "wn",
+      λ fields. made (λ x. Wn x.0 x.1.0 x.1.1)
+          (three_fields address_of strobe_of line_of fields),
+    )
     ∷ order_rows
 
 -- with those of a cache: all of them
@@ -43,8 +55,16 @@ abbrev pub rows : List (List ℕ × Row)
 rows =
     (codes "ld", λ fields. made (λ x. Ld x.0 x.1) (two_fields address_of place_of fields))
     ∷ (codes "ldx", λ fields. made (λ x. Ldx x.0 x.1) (two_fields address_of place_of fields))
-    ∷ (codes "st", λ fields. made (λ x. St x.0 x.1.0 x.1.1) (three_fields address_of place_of word_of fields))
-    ∷ (codes "stx", λ fields. made (λ x. Stx x.0 x.1.0 x.1.1) (three_fields address_of place_of word_of fields))
+    ∷ (
+      codes "st",
+      λ fields. made (λ x. St x.0 x.1.0 x.1.1)
+          (three_fields address_of place_of word_of fields),
+    )
+    ∷ (
+      codes "stx",
+      λ fields. made (λ x. Stx x.0 x.1.0 x.1.1)
+          (three_fields address_of place_of word_of fields),
+    )
     ∷ (codes "fill", λ fields. made (λ x. Fill x.0 x.1) (two_fields address_of line_of fields))
     ∷ (codes "pf", λ fields. made (λ x. Pf x.0 x.1) (two_fields address_of fetch_of fields))
     ∷ (codes "wb", λ fields. made (λ a. Wb a) (one_field address_of fields))
@@ -65,10 +85,12 @@ op_of word fields = by_row (lookup (bytes_eq word) rows) fields
 abbrev pub if_allowed : Header → List PlanOp → Result (ℕ × Op) Reason → Result PlanOp Reason
 if_allowed h before (Err why) = Err why
 if_allowed h before (Ok x) =
-    if is_allowed h before (record { port = x.0; op = x.1 }) then Ok (record { port = x.0; op = x.1 }) else Err P8
+    if is_allowed h before (record { port = x.0; op = x.1 })
+    then Ok (record { port = x.0; op = x.1 }) else Err P8
 
--- The operation of a line with these fields, the first of which is its port, behind these operations of a script with this
--- header; or the least reason that applies.
+-- The operation of a line with these fields, the first of which is its port, behind these
+-- operations of a script with this header; or the least reason that applies.
 abbrev pub operation_of : Header → List PlanOp → List (List ℕ) → Result PlanOp Reason
-operation_of h before (port ∷ word ∷ fields) = if_allowed h before (both (port_of h port) (op_of word fields))
+operation_of h before (port ∷ word ∷ fields) =
+    if_allowed h before (both (port_of h port) (op_of word fields))
 operation_of h before _ = Err P2

@@ -36,9 +36,11 @@ op_fields (Cs a) = codes "cs" ∷ hex_text 8 a ∷ []
 op_fields (Ci a) = codes "ci" ∷ hex_text 8 a ∷ []
 op_fields (Mi a) = codes "mi" ∷ hex_text 8 a ∷ []
 op_fields (Rn a) = codes "rn" ∷ hex_text 8 a ∷ []
-op_fields (Wu a strobe line) = codes "wu" ∷ hex_text 8 a ∷ hex_text 16 strobe ∷ line_digits line ∷ []
+op_fields (Wu a strobe line) =
+    codes "wu" ∷ hex_text 8 a ∷ hex_text 16 strobe ∷ line_digits line ∷ []
 op_fields (Wlu a line) = codes "wlu" ∷ hex_text 8 a ∷ line_digits line ∷ []
-op_fields (Wn a strobe line) = codes "wn" ∷ hex_text 8 a ∷ hex_text 16 strobe ∷ line_digits line ∷ []
+op_fields (Wn a strobe line) =
+    codes "wn" ∷ hex_text 8 a ∷ hex_text 16 strobe ∷ line_digits line ∷ []
 op_fields Mb = codes "mb" ∷ []
 op_fields Sb = codes "sb" ∷ []
 op_fields (Dvm word) = codes "dvm" ∷ hex_text 8 word ∷ []
@@ -70,7 +72,8 @@ policy_text (Mixed n) = codes "POLICY mixed " ++ hex_text 16 n
 -- the four header lines
 abbrev pub script_header : Plan → List ℕ
 script_header plan =
-    line_text first_text ++ line_text (ports_text plan.header) ++ line_text (cache_text plan.ways) ++ line_text (policy_text plan.policy)
+    line_text first_text ++ line_text (ports_text plan.header) ++ line_text (cache_text plan.ways)
+    ++ line_text (policy_text plan.policy)
 
 -- the lines of the operations, in order
 abbrev pub operations_text : List PlanOp → List ℕ

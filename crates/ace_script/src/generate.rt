@@ -145,7 +145,8 @@ impl Plan {
     ghost use Rattle.std.specs.Prelude.{◌≡◌, IfOk};
     ghost use Rattle.ace_script.specs.Generated.{generated};
 
-    /// The plan that is made from n, of 512 operations: two words of a PCG generator that starts from n give each.
+    /// The plan that is made from n, of 512 operations: two words of a PCG generator that starts
+    /// from n give each.
     ///
     /// # Errors
     ///

@@ -30,7 +30,8 @@ fn is_cache_line(line: &[u8], ways: u8) -> bool
 
 /// The number of lines of a cache, of which this is the third header line, without its line feed.
 pub fn parse_cache(line: &[u8]) -> Option<u8>
-    ensures { MatchOption result (¬ IsCacheLine line.now) (λ ways. (1 ≤ ways) × (ways ≤ 32) × (cache_text ways ≡ line.now)) }
+    ensures { MatchOption result (¬ IsCacheLine line.now) (λ ways. (1 ≤ ways)
+        × (ways ≤ 32) × (cache_text ways ≡ line.now)) }
 {
     for ways in 1..33 {
         if is_cache_line(line, ways) {
@@ -43,7 +44,8 @@ pub fn parse_cache(line: &[u8]) -> Option<u8>
 /// The number of sixteen digits.
 #[tactic(auto, using(crate::proofs::PolicyLines::sixteen_digits))]
 fn sixteen_digits(digits: &[u8]) -> Option<u64>
-    ensures { MatchOption result ((n : ℕ) → n < 2 ^ 64 → hex_text 16 n ≢ digits.now) (λ n. hex_text 16 n ≡ digits.now) }
+    ensures { MatchOption result ((n : ℕ) → n < 2 ^ 64 → hex_text 16 n ≢ digits.now)
+        (λ n. hex_text 16 n ≡ digits.now) }
 {
     match number(digits, 16) {
         Ok(n) => Some(n as u64),
@@ -53,7 +55,8 @@ fn sixteen_digits(digits: &[u8]) -> Option<u64>
 
 /// The number of a mixed policy, of which this is the fourth header line.
 fn parse_mixed(line: &[u8]) -> Option<u64>
-    ensures { MatchOption result ((n : ℕ) → n < 2 ^ 64 → policy_text (Mixed n) ≢ line.now) (λ n. policy_text (Mixed n) ≡ line.now) }
+    ensures { MatchOption result ((n : ℕ) → n < 2 ^ 64 → policy_text (Mixed n) ≢ line.now)
+        (λ n. policy_text (Mixed n) ≡ line.now) }
 {
     let digits = line.strip_prefix(b"POLICY mixed ".as_slice())?;
     sixteen_digits(digits)
@@ -61,7 +64,8 @@ fn parse_mixed(line: &[u8]) -> Option<u64>
 
 /// How snoops are answered, of which this is the fourth header line, without its line feed.
 pub fn parse_policy(line: &[u8]) -> Option<PolicyWord>
-    ensures { MatchOption result (¬ IsPolicyLine line.now) (λ policy. PolicyFits policy × (policy_text policy ≡ line.now)) }
+    ensures { MatchOption result (¬ IsPolicyLine line.now)
+        (λ policy. PolicyFits policy × (policy_text policy ≡ line.now)) }
 {
     if is_text(line, b"POLICY keep") {
         return Some(PolicyWord::Keep);

@@ -36,10 +36,14 @@ fn header_line<S: Source>(
     ensures same_source { (source_of lines.new).ghost_name ≡ (source_of lines.old).ghost_name }
     ensures no_lf { HasNoLf line.new }
     ensures short { OnOk result (length line.new < 256) }
-    ensures taken { OnOk result (Consumes (waiting S.left lines.old) (waiting S.left lines.new) (line_text line.new)) }
-    ensures steady { OnOk result (S.faults (source_of lines.new).now ≡ S.faults (source_of lines.old).now) }
-    ensures none { IfErr result (λ error. (kind : HeaderLine) (kinds : List HeaderLine) → HasNoHeader (kind ∷ kinds) number error
-        (waiting S.left lines.old) (S.faults (source_of lines.old).now) (S.faults (source_of lines.new).now)) }
+    ensures taken { OnOk result (Consumes (waiting S.left lines.old)
+        (waiting S.left lines.new) (line_text line.new)) }
+    ensures steady { OnOk result (S.faults (source_of lines.new).now
+        ≡ S.faults (source_of lines.old).now) }
+    ensures none { IfErr result (λ error. (kind : HeaderLine) (kinds : List HeaderLine)
+        → HasNoHeader (kind ∷ kinds) number error
+        (waiting S.left lines.old) (S.faults (source_of lines.old).now)
+        (S.faults (source_of lines.new).now)) }
 {
     match take_line(lines, line) {
         Ok(true) => Ok(()),
@@ -59,10 +63,13 @@ fn read_policy<S: Source>(
 ) -> Result<PolicyWord, PlanErr>
     ensures same_source { (source_of lines.new).ghost_name ≡ (source_of lines.old).ghost_name }
     ensures fits { IfOk result PolicyFits }
-    ensures text { IfOk result (λ policy. Consumes (waiting S.left lines.old) (waiting S.left lines.new) (line_text (policy_text policy))) }
-    ensures steady { OnOk result (S.faults (source_of lines.new).now ≡ S.faults (source_of lines.old).now) }
+    ensures text { IfOk result (λ policy. Consumes (waiting S.left lines.old)
+        (waiting S.left lines.new) (line_text (policy_text policy))) }
+    ensures steady { OnOk result (S.faults (source_of lines.new).now
+        ≡ S.faults (source_of lines.old).now) }
     ensures none { IfErr result (λ error. HasNoHeader (PolicyLine ∷ []) 4 error
-        (waiting S.left lines.old) (S.faults (source_of lines.old).now) (S.faults (source_of lines.new).now)) }
+        (waiting S.left lines.old) (S.faults (source_of lines.old).now)
+        (S.faults (source_of lines.new).now)) }
 {
     match header_line(lines, line, 4) {
         Ok(()) => {}
@@ -89,9 +96,11 @@ fn read_cache<S: Source>(
     ensures fits { IfOk result (λ x. PolicyFits x.1) }
     ensures text { IfOk result (λ x. Consumes (waiting S.left lines.old) (waiting S.left lines.new)
         (line_text (cache_text x.0) ++ line_text (policy_text x.1))) }
-    ensures steady { OnOk result (S.faults (source_of lines.new).now ≡ S.faults (source_of lines.old).now) }
+    ensures steady { OnOk result (S.faults (source_of lines.new).now
+        ≡ S.faults (source_of lines.old).now) }
     ensures none { IfErr result (λ error. HasNoHeader (CacheLine ∷ PolicyLine ∷ []) 3 error
-        (waiting S.left lines.old) (S.faults (source_of lines.old).now) (S.faults (source_of lines.new).now)) }
+        (waiting S.left lines.old) (S.faults (source_of lines.old).now)
+        (S.faults (source_of lines.new).now)) }
 {
     match header_line(lines, line, 3) {
         Ok(()) => {}
@@ -123,10 +132,14 @@ fn read_ports<S: Source>(
     ensures most { IfOk result (λ x. x.1.0 ≤ 32) }
     ensures fits { IfOk result (λ x. PolicyFits x.1.1) }
     ensures text { IfOk result (λ x. Consumes (waiting S.left lines.old) (waiting S.left lines.new)
-        (line_text (ports_text x.0) ++ line_text (cache_text x.1.0) ++ line_text (policy_text x.1.1))) }
-    ensures steady { OnOk result (S.faults (source_of lines.new).now ≡ S.faults (source_of lines.old).now) }
-    ensures none { IfErr result (λ error. HasNoHeader (PortsLine ∷ CacheLine ∷ PolicyLine ∷ []) 2 error
-        (waiting S.left lines.old) (S.faults (source_of lines.old).now) (S.faults (source_of lines.new).now)) }
+        (line_text (ports_text x.0) ++ line_text (cache_text x.1.0)
+        ++ line_text (policy_text x.1.1))) }
+    ensures steady { OnOk result (S.faults (source_of lines.new).now
+        ≡ S.faults (source_of lines.old).now) }
+    ensures none { IfErr result (λ error. HasNoHeader (PortsLine
+        ∷ CacheLine ∷ PolicyLine ∷ []) 2 error
+        (waiting S.left lines.old) (S.faults (source_of lines.old).now)
+        (S.faults (source_of lines.new).now)) }
 {
     match header_line(lines, line, 2) {
         Ok(()) => {}
@@ -145,7 +158,8 @@ fn read_ports<S: Source>(
     }
 }
 
-/// Reads the four header lines: the ports, the number of lines of a cache, and how snoops are answered.
+/// Reads the four header lines: the ports, the number of lines of a cache, and how snoops are
+/// answered.
 #[tactic(auto, using(crate::proofs::HeaderReads::header_steps))]
 pub fn read_header<S: Source>(
     lines: &mut LineReader<S>,
@@ -158,10 +172,13 @@ pub fn read_header<S: Source>(
     ensures most { IfOk result (λ x. x.1.0 ≤ 32) }
     ensures fits { IfOk result (λ x. PolicyFits x.1.1) }
     ensures text { IfOk result (λ x. Consumes (waiting S.left lines.old) (waiting S.left lines.new)
-        (line_text first_text ++ line_text (ports_text x.0) ++ line_text (cache_text x.1.0) ++ line_text (policy_text x.1.1))) }
-    ensures steady { OnOk result (S.faults (source_of lines.new).now ≡ S.faults (source_of lines.old).now) }
+        (line_text first_text ++ line_text (ports_text x.0) ++ line_text (cache_text x.1.0)
+        ++ line_text (policy_text x.1.1))) }
+    ensures steady { OnOk result (S.faults (source_of lines.new).now
+        ≡ S.faults (source_of lines.old).now) }
     ensures none { IfErr result (λ error. HasNoHeader header_lines 1 error
-        (waiting S.left lines.old) (S.faults (source_of lines.old).now) (S.faults (source_of lines.new).now)) }
+        (waiting S.left lines.old) (S.faults (source_of lines.old).now)
+        (S.faults (source_of lines.new).now)) }
 {
     match header_line(lines, line, 1) {
         Ok(()) => {}
@@ -207,9 +224,12 @@ fn read_end<S: Source>(lines: &mut LineReader<S>, line: &mut LineBuf) -> Result<
     ensures ended { IfOk result (λ more. more ≡ false) }
     ensures kept { OnOk result (Consumes (waiting S.left lines.old) (waiting S.left lines.new) []) }
     ensures end { OnOk result (IsAtEnd (waiting S.left lines.new)) }
-    ensures steady { OnOk result (S.faults (source_of lines.new).now ≡ S.faults (source_of lines.old).now) }
-    ensures none { IfErr result (λ error. (plan : Plan) → length plan.operations ≡ most_operations → HasNoNext plan error
-        (waiting S.left lines.old) (S.faults (source_of lines.old).now) (S.faults (source_of lines.new).now)) }
+    ensures steady { OnOk result (S.faults (source_of lines.new).now
+        ≡ S.faults (source_of lines.old).now) }
+    ensures none { IfErr result (λ error. (plan : Plan) → length plan.operations ≡ most_operations
+        → HasNoNext plan error
+        (waiting S.left lines.old) (S.faults (source_of lines.old).now)
+        (S.faults (source_of lines.new).now)) }
 {
     match lines.next(line) {
         Ok(LineEnd::End) => Ok(false),
@@ -218,7 +238,8 @@ fn read_end<S: Source>(lines: &mut LineReader<S>, line: &mut LineBuf) -> Result<
     }
 }
 
-/// Reads the line of one more operation, and says whether there was one. After an error read no more.
+/// Reads the line of one more operation, and says whether there was one. After an error read no
+/// more.
 #[tactic(auto, using(crate::proofs::HeaderReads::other_line_is_bad))]
 fn read_next<S: Source>(
     lines: &mut LineReader<S>,
@@ -229,13 +250,17 @@ fn read_next<S: Source>(
     requires script { IsScript view.old.plan }
     ensures same_source { (source_of lines.new).ghost_name ≡ (source_of lines.old).ghost_name }
     ensures room { view.new.room ≡ 0 }
-    ensures more { result ≡ Ok true → TakesOne view.old.plan view.new.plan (waiting S.left lines.old) (waiting S.left lines.new) }
+    ensures more { result ≡ Ok true → TakesOne view.old.plan view.new.plan
+        (waiting S.left lines.old) (waiting S.left lines.new) }
     ensures ended { result ≡ Ok false → view.new ≡ view.old }
-    ensures kept { result ≡ Ok false → Consumes (waiting S.left lines.old) (waiting S.left lines.new) [] }
+    ensures kept { result ≡ Ok false
+        → Consumes (waiting S.left lines.old) (waiting S.left lines.new) [] }
     ensures end { result ≡ Ok false → IsAtEnd (waiting S.left lines.new) }
-    ensures steady { OnOk result (S.faults (source_of lines.new).now ≡ S.faults (source_of lines.old).now) }
+    ensures steady { OnOk result (S.faults (source_of lines.new).now
+        ≡ S.faults (source_of lines.old).now) }
     ensures none { IfErr result (λ error. HasNoNext view.old.plan error
-        (waiting S.left lines.old) (S.faults (source_of lines.old).now) (S.faults (source_of lines.new).now)) }
+        (waiting S.left lines.old) (S.faults (source_of lines.old).now)
+        (S.faults (source_of lines.new).now)) }
 {
     let count = view.count();
     if count == MOST_OPERATIONS {
@@ -255,7 +280,8 @@ fn read_next<S: Source>(
     }
 }
 
-/// Reads the lines of operations to the end of the source, and adds each to the plan. After an error read no more.
+/// Reads the lines of operations to the end of the source, and adds each to the plan. After an
+/// error read no more.
 #[tactic(auto, using(crate::proofs::OperationReads::reading_steps))]
 pub fn read_operations<S: Source>(
     lines: &mut LineReader<S>,
@@ -267,12 +293,16 @@ pub fn read_operations<S: Source>(
     ensures same_source { (source_of lines.new).ghost_name ≡ (source_of lines.old).ghost_name }
     ensures room { view.new.room ≡ 0 }
     ensures script { OnOk result (IsScript view.new.plan) }
-    ensures read { (bytes : Option (List ℕ)) → Consumes bytes (waiting S.left lines.old) (plan_text view.old.plan)
+    ensures read { (bytes : Option (List ℕ))
+        → Consumes bytes (waiting S.left lines.old) (plan_text view.old.plan)
         → OnOk result (Consumes bytes (waiting S.left lines.new) (plan_text view.new.plan)) }
     ensures end { OnOk result (IsAtEnd (waiting S.left lines.new)) }
-    ensures steady { OnOk result (S.faults (source_of lines.new).now ≡ S.faults (source_of lines.old).now) }
-    ensures none { IfErr result (λ error. (bytes : Option (List ℕ)) → Consumes bytes (waiting S.left lines.old) (plan_text view.old.plan)
-        → HasNoPlan error bytes (S.faults (source_of lines.old).now) (S.faults (source_of lines.new).now)) }
+    ensures steady { OnOk result (S.faults (source_of lines.new).now
+        ≡ S.faults (source_of lines.old).now) }
+    ensures none { IfErr result (λ error. (bytes : Option (List ℕ))
+        → Consumes bytes (waiting S.left lines.old) (plan_text view.old.plan)
+        → HasNoPlan error bytes (S.faults (source_of lines.old).now)
+        (S.faults (source_of lines.new).now)) }
 {
     'operations: loop {
         match read_next(lines, line, view) {

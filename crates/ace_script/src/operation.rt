@@ -27,7 +27,8 @@ use ace_model::{Op, PlanOp};
 
 /// The field, where no more are left.
 fn only<'a>(field: &'a [u8], more: Option<&[u8]>) -> Option<&'a [u8]>
-    ensures { option_map (λ a. a.now) result ≡ alone (field.now ∷ parts (option_map (λ bytes. bytes.now) more.entry)) }
+    ensures { option_map (λ a. a.now) result ≡ alone (field.now
+        ∷ parts (option_map (λ bytes. bytes.now) more.entry)) }
 {
     match more {
         None => Some(field),
@@ -37,7 +38,8 @@ fn only<'a>(field: &'a [u8], more: Option<&[u8]>) -> Option<&'a [u8]>
 
 /// The one field that is left, where there is exactly one.
 fn alone(rest: Option<&[u8]>) -> Option<&[u8]>
-    ensures { option_map (λ a. a.now) result ≡ alone (parts (option_map (λ bytes. bytes.now) rest.entry)) }
+    ensures { option_map (λ a. a.now) result
+        ≡ alone (parts (option_map (λ bytes. bytes.now) rest.entry)) }
 {
     let (field, more) = cut_field(rest?);
     only(field, more)
@@ -45,7 +47,8 @@ fn alone(rest: Option<&[u8]>) -> Option<&[u8]>
 
 /// The two fields that are left, where there are exactly two.
 fn pair(rest: Option<&[u8]>) -> Option<(&[u8], &[u8])>
-    ensures { option_map (λ x. (x.0.now, x.1.now)) result ≡ pair (parts (option_map (λ bytes. bytes.now) rest.entry)) }
+    ensures { option_map (λ x. (x.0.now, x.1.now)) result
+        ≡ pair (parts (option_map (λ bytes. bytes.now) rest.entry)) }
 {
     let (field, rest) = cut_field(rest?);
     Some((field, alone(rest)?))
@@ -53,7 +56,8 @@ fn pair(rest: Option<&[u8]>) -> Option<(&[u8], &[u8])>
 
 /// The three fields that are left, where there are exactly three.
 fn triple(rest: Option<&[u8]>) -> Option<(&[u8], (&[u8], &[u8]))>
-    ensures { option_map (λ x. (x.0.now, (x.1.0.now, x.1.1.now))) result ≡ triple (parts (option_map (λ bytes. bytes.now) rest.entry)) }
+    ensures { option_map (λ x. (x.0.now, (x.1.0.now, x.1.1.now))) result
+        ≡ triple (parts (option_map (λ bytes. bytes.now) rest.entry)) }
 {
     let (field, rest) = cut_field(rest?);
     Some((field, pair(rest)?))
@@ -71,7 +75,8 @@ fn line_fields(rest: Option<&[u8]>) -> Result<u32, Reason>
 
 /// An address and the number of a word.
 fn load_fields(rest: Option<&[u8]>) -> Result<(u32, u8), Reason>
-    ensures { result ≡ two_fields address_of place_of (parts (option_map (λ bytes. bytes.now) rest.entry)) }
+    ensures { result ≡ two_fields address_of place_of
+        (parts (option_map (λ bytes. bytes.now) rest.entry)) }
 {
     match pair(rest) {
         Some((a, w)) => both(address(a), place(w)),
@@ -81,7 +86,8 @@ fn load_fields(rest: Option<&[u8]>) -> Result<(u32, u8), Reason>
 
 /// An address, the number of a word, and the word.
 fn store_fields(rest: Option<&[u8]>) -> Result<(u32, (u8, u128)), Reason>
-    ensures { result ≡ three_fields address_of place_of word_of (parts (option_map (λ bytes. bytes.now) rest.entry)) }
+    ensures { result ≡ three_fields address_of place_of word_of
+        (parts (option_map (λ bytes. bytes.now) rest.entry)) }
 {
     match triple(rest) {
         Some((a, (w, bytes))) => both(address(a), both(place(w), word(bytes))),
@@ -91,7 +97,8 @@ fn store_fields(rest: Option<&[u8]>) -> Result<(u32, (u8, u128)), Reason>
 
 /// An address and a line.
 fn fill_fields(rest: Option<&[u8]>) -> Result<(u32, Line), Reason>
-    ensures { result ≡ two_fields address_of line_of (parts (option_map (λ bytes. bytes.now) rest.entry)) }
+    ensures { result ≡ two_fields address_of line_of
+        (parts (option_map (λ bytes. bytes.now) rest.entry)) }
 {
     match pair(rest) {
         Some((a, bytes)) => both(address(a), line(bytes)),
@@ -101,7 +108,8 @@ fn fill_fields(rest: Option<&[u8]>) -> Result<(u32, Line), Reason>
 
 /// An address, a strobe and a line.
 fn write_fields(rest: Option<&[u8]>) -> Result<(u32, (u64, Line)), Reason>
-    ensures { result ≡ three_fields address_of strobe_of line_of (parts (option_map (λ bytes. bytes.now) rest.entry)) }
+    ensures { result ≡ three_fields address_of strobe_of line_of
+        (parts (option_map (λ bytes. bytes.now) rest.entry)) }
 {
     match triple(rest) {
         Some((a, (bits, bytes))) => both(address(a), both(strobe(bits), line(bytes))),
@@ -111,7 +119,8 @@ fn write_fields(rest: Option<&[u8]>) -> Result<(u32, (u64, Line)), Reason>
 
 /// An address and the letter of a read ahead.
 fn fetch_fields(rest: Option<&[u8]>) -> Result<(u32, ArKind), Reason>
-    ensures { result ≡ two_fields address_of fetch_of (parts (option_map (λ bytes. bytes.now) rest.entry)) }
+    ensures { result ≡ two_fields address_of fetch_of
+        (parts (option_map (λ bytes. bytes.now) rest.entry)) }
 {
     match pair(rest) {
         Some((a, letter)) => both(address(a), fetch(letter)),
@@ -141,7 +150,8 @@ fn sync_fields(rest: Option<&[u8]>) -> Result<u32, Reason>
 
 /// The words of a DVM message of two parts.
 fn part_fields(rest: Option<&[u8]>) -> Result<(u32, u32), Reason>
-    ensures { result ≡ two_fields first_word_of second_word_of (parts (option_map (λ bytes. bytes.now) rest.entry)) }
+    ensures { result ≡ two_fields first_word_of second_word_of
+        (parts (option_map (λ bytes. bytes.now) rest.entry)) }
 {
     match pair(rest) {
         Some((first, second)) => both(first_word(first), second_word(second)),
@@ -151,7 +161,8 @@ fn part_fields(rest: Option<&[u8]>) -> Result<(u32, u32), Reason>
 
 /// No field at all, for this operation.
 fn without_fields(rest: Option<&[u8]>, op: Op) -> Result<Op, Reason>
-    ensures { result ≡ made (λ _. op) (no_field (parts (option_map (λ bytes. bytes.now) rest.entry))) }
+    ensures { result ≡ made (λ _. op)
+        (no_field (parts (option_map (λ bytes. bytes.now) rest.entry))) }
 {
     match rest {
         None => Ok(op),
@@ -161,7 +172,8 @@ fn without_fields(rest: Option<&[u8]>, op: Op) -> Result<Op, Reason>
 
 /// The operation of a word that names no line.
 fn order_op(word: &[u8], rest: Option<&[u8]>) -> Result<Op, Reason>
-    ensures { result ≡ by_row (lookup (bytes_eq word.now) order_rows) (parts (option_map (λ bytes. bytes.now) rest.entry)) }
+    ensures { result ≡ by_row (lookup (bytes_eq word.now) order_rows)
+        (parts (option_map (λ bytes. bytes.now) rest.entry)) }
 {
     if word == b"mb".as_slice() {
         without_fields(rest, Op::Mb)
@@ -180,7 +192,8 @@ fn order_op(word: &[u8], rest: Option<&[u8]>) -> Result<Op, Reason>
 
 /// The operation of a word that names none, or a line that no cache is to hold.
 fn uncached_op(word: &[u8], rest: Option<&[u8]>) -> Result<Op, Reason>
-    ensures { result ≡ by_row (lookup (bytes_eq word.now) uncached_rows) (parts (option_map (λ bytes. bytes.now) rest.entry)) }
+    ensures { result ≡ by_row (lookup (bytes_eq word.now) uncached_rows)
+        (parts (option_map (λ bytes. bytes.now) rest.entry)) }
 {
     if word == b"ro".as_slice() {
         line_fields(rest).map(|addr| Op::Ro { addr })
@@ -275,7 +288,8 @@ fn keeps_class(_header: &Header, before: &[PlanOp], op: Op) -> bool
     true
 }
 
-/// Whether the kind of port can do the operation, and none of these named its line in the other class.
+/// Whether the kind of port can do the operation, and none of these named its line in the other
+/// class.
 fn is_allowed(header: &Header, before: &[PlanOp], o: PlanOp) -> bool
     requires { AreRightAfter header.now [] before.now }
     ensures { result ≡ is_allowed header.now before.now o }
@@ -286,7 +300,8 @@ fn is_allowed(header: &Header, before: &[PlanOp], o: PlanOp) -> bool
 /// The operation of a line, or the least reason that applies.
 fn operation_of(line: &[u8], header: &Header, before: &[PlanOp]) -> Result<PlanOp, Reason>
     requires { AreRightAfter header.now [] before.now }
-    ensures { result ≡ operation_of header.now before.now (slice_split (λ byte. byte == 32) line.now) }
+    ensures { result ≡ operation_of header.now before.now
+        (slice_split (λ byte. byte == 32) line.now) }
 {
     let (first, rest) = cut_field(line);
     let bytes = match rest {
@@ -307,13 +322,14 @@ fn operation_of(line: &[u8], header: &Header, before: &[PlanOp]) -> Result<PlanO
     }
 }
 
-/// The operation whose line this is, without its line feed, behind these of a right script with this
-/// header. Where it is the line of none that can stand there, the error is the least reason that
-/// applies.
+/// The operation whose line this is, without its line feed, behind these of a right script with
+/// this header. Where it is the line of none that can stand there, the error is the least reason
+/// that applies.
 #[tactic(auto, using(crate::proofs::LineReasons::line_parsed, crate::proofs::LineReasons::line_reason))]
 pub fn parse_operation(line: &[u8], header: &Header, before: &[PlanOp]) -> Result<PlanOp, Reason>
     requires { AreRightAfter header.now [] before.now }
-    ensures operation { IfOk result (λ o. IsRightAfter header.now before.now o × OperationFits o × (operation_text o ≡ line.now)) }
+    ensures operation { IfOk result (λ o. IsRightAfter header.now before.now o
+        × OperationFits o × (operation_text o ≡ line.now)) }
     ensures reason { IfErr result (HasReason header.now before.now line.now) }
 {
     operation_of(line, header, before)

@@ -88,7 +88,15 @@ impl Plan {
         requires most_ways { ways ≤ 32 }
         requires some_room { 1 ≤ room }
         requires most_room { room ≤ most_operations }
-        ensures { IfOk result (λ plan. plan ≡ record { plan = record { header = header; ways = ways; policy = policy; operations = [] }; room = room }) }
+        ensures { IfOk result (λ plan. plan ≡ record {
+          plan = record {
+            header = header;
+            ways = ways;
+            policy = policy;
+            operations = [];
+          };
+          room = room;
+        }) }
     {
         every_policy_fits(policy);
         match PlanView::with_room(alloc, header, ways, policy, room) {
@@ -97,11 +105,17 @@ impl Plan {
         }
     }
 
-    /// Puts the operation at the end, where it can stand there, and takes one from the room. It takes no memory.
+    /// Puts the operation at the end, where it can stand there, and takes one from the room. It
+    /// takes no memory.
     pub fn push(&mut self, port: u8, op: Op)
         requires room { self.old.room ≢ 0 }
-        requires right { IsRightAfter self.old.plan.header self.old.plan.operations (record { port = port; op = op }) }
-        ensures { self.new ≡ record { plan = longer self.old.plan (record { port = port; op = op }); room = self.old.room - 1 } }
+        requires right { IsRightAfter self.old.plan.header self.old.plan.operations
+            (record { port = port; op = op }) }
+        ensures { self.new ≡ record {
+          plan = longer self.old.plan
+              (record { port = port; op = op });
+          room = self.old.room - 1;
+        } }
     {
         push_right(&mut self.view, PlanOp { port, op });
     }
@@ -152,7 +166,8 @@ fn line_of(o: &PlanOp) -> TextBuf
 
 /// Whether the operations have one line.
 fn have_one_line(one: &PlanOp, other: &PlanOp) -> bool
-    ensures { IsTrue result ↔ (line_text (operation_text one.now) ≡ line_text (operation_text other.now)) }
+    ensures { IsTrue result ↔ (line_text (operation_text one.now)
+        ≡ line_text (operation_text other.now)) }
 {
     let text = line_of(one);
     let other_text = line_of(other);
@@ -198,10 +213,16 @@ fn are_same(one: &PlanView, other: &PlanView) -> bool
     have_one_text(one.operations(), other.operations())
 }
 
-/// A plan like this one, without its operations, with room for them and for those that it has room for.
+/// A plan like this one, without its operations, with room for them and for those that it has room
+/// for.
 fn cleared(alloc: Global, view: &PlanView) -> Result<PlanView, NoMemory>
     ensures { IfOk result (λ copy. copy ≡ record {
-      plan = record { header = view.now.plan.header; ways = view.now.plan.ways; policy = view.now.plan.policy; operations = [] };
+      plan = record {
+        header = view.now.plan.header;
+        ways = view.now.plan.ways;
+        policy = view.now.plan.policy;
+        operations = [];
+      };
       room = length view.now.plan.operations + view.now.room;
     }) }
 {

@@ -46,7 +46,8 @@ fn push_place(text: &mut TextBuf, word: &[u8], addr: u32, w: u8)
 fn push_store(text: &mut TextBuf, word: &[u8], addr: u32, w: u8, bytes: u128)
     requires word { length word.now ≤ 8 }
     requires room { length text.old + 200 ≤ 4096 }
-    ensures value { text.new ≡ text.old ++ word.now ++ 32 ∷ hex_text 8 addr ++ 32 ∷ hex_text 1 w ++ 32 ∷ hex_text 32 bytes }
+    ensures value { text.new ≡ text.old ++ word.now ++ 32 ∷ hex_text 8 addr
+        ++ 32 ∷ hex_text 1 w ++ 32 ∷ hex_text 32 bytes }
     ensures len { length text.new ≤ length text.old + 52 }
 {
     push_place(text, word, addr, w);
@@ -57,7 +58,8 @@ fn push_store(text: &mut TextBuf, word: &[u8], addr: u32, w: u8, bytes: u128)
 fn push_whole(text: &mut TextBuf, word: &[u8], addr: u32, line: &Line)
     requires word { length word.now ≤ 8 }
     requires room { length text.old + 200 ≤ 4096 }
-    ensures value { text.new ≡ text.old ++ word.now ++ 32 ∷ hex_text 8 addr ++ 32 ∷ line_digits line.now }
+    ensures value { text.new ≡ text.old ++ word.now ++ 32 ∷ hex_text 8 addr
+        ++ 32 ∷ line_digits line.now }
     ensures len { length text.new ≤ length text.old + 146 }
 {
     push_addressed(text, word, addr);
@@ -68,7 +70,8 @@ fn push_whole(text: &mut TextBuf, word: &[u8], addr: u32, line: &Line)
 fn push_strobed(text: &mut TextBuf, word: &[u8], addr: u32, strobe: u64, line: &Line)
     requires word { length word.now ≤ 8 }
     requires room { length text.old + 200 ≤ 4096 }
-    ensures value { text.new ≡ text.old ++ word.now ++ 32 ∷ hex_text 8 addr ++ 32 ∷ hex_text 16 strobe ++ 32 ∷ line_digits line.now }
+    ensures value { text.new ≡ text.old ++ word.now ++ 32 ∷ hex_text 8 addr
+        ++ 32 ∷ hex_text 16 strobe ++ 32 ∷ line_digits line.now }
     ensures len { length text.new ≤ length text.old + 163 }
 {
     push_addressed(text, word, addr);
@@ -79,7 +82,8 @@ fn push_strobed(text: &mut TextBuf, word: &[u8], addr: u32, strobe: u64, line: &
 /// Those of a read ahead.
 fn push_fetch(text: &mut TextBuf, addr: u32, kind: ArKind)
     requires room { length text.old + 32 ≤ 4096 }
-    ensures value { text.new ≡ text.old ++ codes "pf" ++ 32 ∷ hex_text 8 addr ++ 32 ∷ fetch_text kind }
+    ensures value { text.new ≡ text.old ++ codes "pf" ++ 32 ∷ hex_text 8 addr
+        ++ 32 ∷ fetch_text kind }
     ensures len { length text.new ≤ length text.old + 19 }
 {
     push_addressed(text, b"pf", addr);
@@ -187,10 +191,12 @@ fn header_text(view: &PlanView) -> TextBuf
 
 /// Gives the text that waits where it has more bytes than these.
 fn give_over<K: Sink>(sink: &mut K, text: &mut TextBuf, most: usize) -> Result<(), WriteErr>
-    ensures kept { OnOk result ((before : Option (List ℕ)) (whole : List ℕ) → IsWaiting before (K.held sink.old) text.old whole
+    ensures kept { OnOk result ((before : Option (List ℕ)) (whole : List ℕ)
+        → IsWaiting before (K.held sink.old) text.old whole
         → IsWaiting before (K.held sink.new) text.new whole) }
     ensures room { OnOk result (length text.new ≤ most) }
-    ensures part { OnErr result ((before : Option (List ℕ)) (whole : List ℕ) → IsWaiting before (K.held sink.old) text.old whole
+    ensures part { OnErr result ((before : Option (List ℕ)) (whole : List ℕ)
+        → IsWaiting before (K.held sink.old) text.old whole
         → GivesFront before (K.held sink.new) whole) }
     ensures cause { HasCause (K.faults sink.old) (K.faults sink.new) result }
 {
@@ -211,9 +217,11 @@ fn give_operations<K: Sink>(
     text: &mut TextBuf,
     operations: &[PlanOp],
 ) -> Result<(), WriteErr>
-    ensures given { OnOk result ((before : Option (List ℕ)) (front : List ℕ) → IsWaiting before (K.held sink.old) text.old front
+    ensures given { OnOk result ((before : Option (List ℕ)) (front : List ℕ)
+        → IsWaiting before (K.held sink.old) text.old front
         → Appends before (K.held sink.new) (front ++ operations_text operations.now)) }
-    ensures part { OnErr result ((before : Option (List ℕ)) (front : List ℕ) → IsWaiting before (K.held sink.old) text.old front
+    ensures part { OnErr result ((before : Option (List ℕ)) (front : List ℕ)
+        → IsWaiting before (K.held sink.old) text.old front
         → GivesFront before (K.held sink.new) (front ++ operations_text operations.now)) }
     ensures cause { HasCause (K.faults sink.old) (K.faults sink.new) result }
 {
@@ -229,8 +237,10 @@ fn give_operations<K: Sink>(
 /// Writes the text of the plan.
 fn give_plan<K: Sink>(sink: &mut K, view: &PlanView) -> Result<(), WriteErr>
     requires { IsHeader view.now.plan.header }
-    ensures text { OnOk result (Appends (K.held sink.old) (K.held sink.new) (plan_text view.now.plan)) }
-    ensures part { OnErr result (GivesFront (K.held sink.old) (K.held sink.new) (plan_text view.now.plan)) }
+    ensures text { OnOk result (Appends (K.held sink.old) (K.held sink.new)
+        (plan_text view.now.plan)) }
+    ensures part { OnErr result (GivesFront (K.held sink.old) (K.held sink.new)
+        (plan_text view.now.plan)) }
     ensures cause { HasCause (K.faults sink.old) (K.faults sink.new) result }
 {
     let mut text = header_text(view);
@@ -249,10 +259,13 @@ impl Plan {
     ///
     /// # Errors
     ///
-    /// `WriteFault` where the sink's count of faults rose in this call. What was given is then a front of the text.
+    /// `WriteFault` where the sink's count of faults rose in this call. What was given is then a
+    /// front of the text.
     pub fn put<K: Sink>(&self, sink: &mut K) -> Result<(), WriteErr>
-        ensures text { OnOk result (Appends (K.held sink.old) (K.held sink.new) (plan_text self.now.plan)) }
-        ensures part { OnErr result (GivesFront (K.held sink.old) (K.held sink.new) (plan_text self.now.plan)) }
+        ensures text { OnOk result (Appends (K.held sink.old) (K.held sink.new)
+            (plan_text self.now.plan)) }
+        ensures part { OnErr result (GivesFront (K.held sink.old) (K.held sink.new)
+            (plan_text self.now.plan)) }
         ensures cause { HasCause (K.faults sink.old) (K.faults sink.new) result }
     {
         give_plan(sink, self.view())

@@ -16,16 +16,19 @@ impl Plan {
     ///
     /// # Errors
     ///
-    /// `Malformed` exactly where the first malformed line has this number and this least reason; `TooManyOps` exactly where
-    /// 4,096 operations were read and a byte stands next; `ReadFault` only where the source's count of faults rose in this
-    /// call; `NoMemory` where there is none for the plan.
+    /// `Malformed` exactly where the first malformed line has this number and this least reason;
+    /// `TooManyOps` exactly where 4,096 operations were read and a byte stands next; `ReadFault`
+    /// only where the source's count of faults rose in this call; `NoMemory` where there is none
+    /// for the plan.
     #[tactic(auto, using(crate::proofs::OperationReads::whole_steps))]
     pub fn read<S: Source>(alloc: Global, source: &mut S) -> Result<Plan, PlanErr>
-        ensures plan { IfOk result (λ plan. IfTold (S.left source.old) (λ bytes. Reads bytes plan.plan Whole)) }
+        ensures plan { IfOk result (λ plan. IfTold (S.left source.old)
+            (λ bytes. Reads bytes plan.plan Whole)) }
         ensures room { IfOk result (λ plan. plan.room ≡ 0) }
         ensures end { OnOk result (IsAtEnd (S.left source.new)) }
         ensures steady { OnOk result (S.faults source.new ≡ S.faults source.old) }
-        ensures none { IfErr result (λ error. HasNoPlan error (S.left source.old) (S.faults source.old) (S.faults source.new)) }
+        ensures none { IfErr result (λ error. HasNoPlan error (S.left source.old)
+            (S.faults source.old) (S.faults source.new)) }
     {
         let mut lines = match LineReader::start(alloc, source) {
             Ok(lines) => lines,

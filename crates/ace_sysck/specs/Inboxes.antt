@@ -130,7 +130,8 @@ awaits s q place = is_some_and (slice_get s.ports.items q) (λ b. has_place b.pa
 
 -- the part at the place is one that was not forwarded to the port
 abbrev pub awaits_snoop : Inboxes → ℕ → ℕ → Bool
-awaits_snoop s q place = is_some_and (slice_get s.ports.items q) (λ b. has_place (drop b.forwarded b.parts.items) place)
+awaits_snoop s q place =
+    is_some_and (slice_get s.ports.items q) (λ b. has_place (drop b.forwarded b.parts.items) place)
 
 -- the part was forwarded to the port
 abbrev pub was_forwarded : Trace → Transaction → ℕ → Bool

@@ -149,8 +149,8 @@ impl SysCheck {
         self.inboxes.next_sender(port)
     }
 
-    /// Whether the part of a DVM message, which is outstanding, was forwarded to this other ACE port
-    /// (Arm IHI 0022E, C12).
+    /// Whether the part of a DVM message, which is outstanding, was forwarded to this other ACE
+    /// port (Arm IHI 0022E, C12).
     pub fn was_forwarded(&self, part: &Transaction, port: u8) -> bool
         ensures { (r : Recording) (own id : ℕ) → Stands self.now r
             → outstanding r.header r.past own Read id ≡ Some part.now

@@ -1,5 +1,5 @@
--- The answers to a snoop: which state the port is left in, and what CRRESP says (Arm IHI 0022E, C5 and C3.7; which of the
--- permitted ones is our choice).
+-- The answers to a snoop: which state the port is left in, and what CRRESP says (Arm IHI 0022E, C5
+-- and C3.7; which of the permitted ones is our choice).
 use Rattle.std.specs.Prelude.{ℕ, Bool, true, false, not, ◌&&◌, ◌||◌, ◌==◌, nat_lt, List, [], ◌∷◌, ◌++◌, if◌then◌else◌}
 use Rattle.ace_codes.specs.declared.state.LineState.{LineState}
 use Rattle.ace_codes.specs.declared.state.LineState.TheVariants.{I, UC, UD, SC, SD}
@@ -9,7 +9,8 @@ use Rattle.ace_codes.specs.Responses.{transfers_data, has_error, passes_dirty, i
 use Rattle.ace_tables.specs.declared.rows.Row.{Row}
 use Rattle.ace_tables.specs.States.{is_invalid, is_dirty, is_unique, is_among}
 
--- the states in which ReadShared, ReadClean and ReadNotSharedDirty may leave a port that holds the line
+-- the states in which ReadShared, ReadClean and ReadNotSharedDirty may leave a port that holds the
+-- line
 abbrev pub states_after_sharing : LineState → List LineState
 states_after_sharing UC = SC ∷ I ∷ []
 states_after_sharing UD = SD ∷ SC ∷ I ∷ []
@@ -35,12 +36,14 @@ states_after CleanShared SC = SC ∷ I ∷ []
 states_after CleanShared SD = SC ∷ I ∷ []
 states_after _ _ = []
 
--- DataTransfer: 0 for MakeInvalid; for the others 1 where the held state is dirty, and free where it is clean
+-- DataTransfer: 0 for MakeInvalid; for the others 1 where the held state is dirty, and free where
+-- it is clean
 abbrev pub fits_transfer : SnoopKind → LineState → Bool → Bool
 fits_transfer MakeInvalid held transfer = not transfer
 fits_transfer _ held transfer = not (is_dirty held) || transfer
 
--- PassDirty: 1 exactly where the held state is dirty, the new one isn't, and the snoop isn't MakeInvalid
+-- PassDirty: 1 exactly where the held state is dirty, the new one isn't, and the snoop isn't
+-- MakeInvalid
 abbrev pub must_pass_dirty : SnoopKind → LineState → LineState → Bool
 must_pass_dirty MakeInvalid held next = false
 must_pass_dirty _ held next = is_dirty held && not (is_dirty next)
@@ -49,8 +52,8 @@ abbrev pub same_test : Bool → Bool → Bool
 same_test true b = b
 same_test false b = not b
 
--- the bits of the response; IsShared is 1 exactly where the line is kept, WasUnique may be 1 where it was unique, and
--- Error is 0
+-- the bits of the response; IsShared is 1 exactly where the line is kept, WasUnique may be 1 where
+-- it was unique, and Error is 0
 abbrev pub fits_answer : SnoopKind → LineState → LineState → ℕ → Bool
 fits_answer kind held next resp =
     nat_lt resp 32
@@ -70,19 +73,22 @@ goes_with_update _ = false
 
 -- with a memory update of the line outstanding, the port keeps the line and the duty to write it
 abbrev pub fits_update : SnoopKind → LineState → ℕ → Bool
-fits_update kind next resp = goes_with_update kind && not (passes_dirty resp) && not (is_invalid next)
+fits_update kind next resp =
+    goes_with_update kind && not (passes_dirty resp) && not (is_invalid next)
 
--- a port that holds the line in the first state may answer the line snoop with this response and be in the next state
+-- a port that holds the line in the first state may answer the line snoop with this response and be
+-- in the next state
 abbrev pub is_line_row : SnoopKind → LineState → Bool → ℕ → LineState → Bool
 is_line_row kind held update resp next =
-    is_among next (states_after kind held) && fits_answer kind held next resp && (not update || fits_update kind next resp)
+    is_among next (states_after kind held) && fits_answer kind held next resp
+    && (not update || fits_update kind next resp)
 
 -- the one answer of a port that doesn't hold the line, and of a DVM snoop
 abbrev pub is_plain_row : ℕ → LineState → Bool
 is_plain_row resp next = (resp == 0) && is_invalid next
 
--- a port may answer the snoop with this response and be in the next state: where it holds the first state, and has a memory
--- update of the line outstanding or not
+-- a port may answer the snoop with this response and be in the next state: where it holds the first
+-- state, and has a memory update of the line outstanding or not
 abbrev pub is_snoop_row : SnoopKind → LineState → Bool → ℕ → LineState → Bool
 is_snoop_row DvmComplete held update resp next = is_plain_row resp next
 is_snoop_row DvmMessage held update resp next = is_plain_row resp next

@@ -26,8 +26,8 @@ is_unheld read.DvmComplete = true
 is_unheld read.DvmMessage = true
 is_unheld _ = false
 
--- of a read: by its kind, the state held at its end, IsShared and PassDirty of its response, and whether it is an
--- exclusive store that failed. Barriers and DVM hold no line, which is I.
+-- of a read: by its kind, the state held at its end, IsShared and PassDirty of its response, and
+-- whether it is an exclusive store that failed. Barriers and DVM hold no line, which is I.
 abbrev pub end_states_of_read : ArKind → LineState → Bool → Bool → Bool → List LineState
 end_states_of_read read.ReadClean I false false failed = UC ∷ SC ∷ I ∷ []
 end_states_of_read read.ReadNotSharedDirty I false false failed = UC ∷ SC ∷ I ∷ []
@@ -78,7 +78,8 @@ end_states_of_write write.Barrier held = I ∷ []
 
 -- a read may end in the last state
 abbrev pub ends_read : ArKind → LineState → Bool → Bool → Bool → LineState → Bool
-ends_read kind held shared pass failed st = is_among st (end_states_of_read kind held shared pass failed)
+ends_read kind held shared pass failed st =
+    is_among st (end_states_of_read kind held shared pass failed)
 
 -- a write may end in the last state
 abbrev pub ends_write : AwKind → LineState → LineState → Bool

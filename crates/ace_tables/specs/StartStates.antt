@@ -1,5 +1,5 @@
--- The states that a port may hold of the line where it issues a transaction (Arm IHI 0022E, C4; our choice of them).
--- Barriers and DVM have no line and so no row.
+-- The states that a port may hold of the line where it issues a transaction (Arm IHI 0022E, C4; our
+-- choice of them). Barriers and DVM have no line and so no row.
 use Rattle.std.specs.Prelude.{Bool, List, [], ◌∷◌}
 use Rattle.ace_codes.specs.declared.state.LineState.{LineState}
 use Rattle.ace_codes.specs.declared.state.LineState.TheVariants.{I, UC, UD, SC, SD}

@@ -1,4 +1,5 @@
--- The states of a line (Arm IHI 0022E, C1.2.3), and sets of them. A table writes a set as the list of its states.
+-- The states of a line (Arm IHI 0022E, C1.2.3), and sets of them. A table writes a set as the list
+-- of its states.
 use Rattle.std.specs.Prelude.{Bool, true, false, List}
 use Rattle.std.specs.List.{list_any}
 use Rattle.ace_codes.specs.declared.state.LineState.{LineState}

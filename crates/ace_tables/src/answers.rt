@@ -14,7 +14,8 @@ use ace_codes::{
 /// The responses that there are without the Error bit, in the order of a list of rows.
 const RESPONSES: [u8; 16] = [0, 4, 8, 12, 16, 20, 24, 28, 1, 5, 9, 13, 17, 21, 25, 29];
 
-/// The states in which ReadShared, ReadClean and ReadNotSharedDirty may leave a port that holds the line.
+/// The states in which ReadShared, ReadClean and ReadNotSharedDirty may leave a port that holds the
+/// line.
 fn states_after_sharing(held: LineState) -> &'static [LineState]
     ensures { result.now ≡ states_after_sharing held }
 {
@@ -90,8 +91,9 @@ fn fits_update(kind: SnoopKind, next: LineState, resp: u8) -> bool
     is_read && !passes_dirty(resp) && !is_invalid(next)
 }
 
-/// Whether a port may answer the snoop with this response and be in the next state: where it holds the first state, and has
-/// a memory update of the line outstanding or not (Arm IHI 0022E, C5 and C3.7).
+/// Whether a port may answer the snoop with this response and be in the next state: where it holds
+/// the first state, and has a memory update of the line outstanding or not (Arm IHI 0022E, C5 and
+/// C3.7).
 pub fn is_snoop_row(
     kind: SnoopKind,
     held: LineState,
@@ -143,9 +145,10 @@ fn plain_rows() -> RowList
     rows
 }
 
-/// The rows of a snoop: how a port may answer it that holds the line in this state, and has a memory update of the line
-/// outstanding or not. The next states stand in the order UD, SD, UC, SC, I; for one of them DataTransfer 0 stands before 1,
-/// and then WasUnique 0 before 1. There are at most 12 (Arm IHI 0022E, C5 and C3.7).
+/// The rows of a snoop: how a port may answer it that holds the line in this state, and has a
+/// memory update of the line outstanding or not. The next states stand in the order UD, SD, UC, SC,
+/// I; for one of them DataTransfer 0 stands before 1, and then WasUnique 0 before 1. There are at
+/// most 12 (Arm IHI 0022E, C5 and C3.7).
 #[tactic(auto, using(crate::proofs::MostRows::bounds), unfolding(crate::specs::Answers::snoop_rows))]
 pub fn snoop_rows(snoop: SnoopKind, held: LineState, update: bool) -> RowList
     ensures { result ≡ snoop_rows snoop held update }

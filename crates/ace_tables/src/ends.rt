@@ -45,7 +45,8 @@ fn end_of_clean_unique(
 
 /// The end states of a CleanShared.
 fn end_of_clean_shared(held: LineState, shared: bool, pass: bool) -> &'static [LineState]
-    ensures { (failed : Bool) → result.now ≡ end_states_of_read ArKind.CleanShared held shared pass failed }
+    ensures { (failed : Bool) → result.now
+        ≡ end_states_of_read ArKind.CleanShared held shared pass failed }
 {
     match (held, shared, pass) {
         (I, _, false) => &[I],
@@ -57,7 +58,8 @@ fn end_of_clean_shared(held: LineState, shared: bool, pass: bool) -> &'static [L
 
 /// The end states of a MakeUnique.
 fn end_of_make_unique(held: LineState, shared: bool, pass: bool) -> &'static [LineState]
-    ensures { (failed : Bool) → result.now ≡ end_states_of_read ArKind.MakeUnique held shared pass failed }
+    ensures { (failed : Bool) → result.now
+        ≡ end_states_of_read ArKind.MakeUnique held shared pass failed }
 {
     match (held, shared, pass) {
         (I | SC | SD, false, false) => &[UD],
@@ -67,7 +69,8 @@ fn end_of_make_unique(held: LineState, shared: bool, pass: bool) -> &'static [Li
 
 /// The end states of a ReadOnce.
 fn end_of_read_once(held: LineState, pass: bool) -> &'static [LineState]
-    ensures { (shared failed : Bool) → result.now ≡ end_states_of_read ArKind.ReadOnce held shared pass failed }
+    ensures { (shared failed : Bool) → result.now
+        ≡ end_states_of_read ArKind.ReadOnce held shared pass failed }
 {
     match (held, pass) {
         (I, false) => &[I],
@@ -86,9 +89,9 @@ fn end_of_unheld(kind: ArKind, held: LineState, shared: bool, pass: bool) -> &'s
     }
 }
 
-/// The states in which a port may hold the line after a read of this kind, where it holds `held` at its end. `shared` and
-/// `pass` are IsShared and PassDirty of the response, and `failed` says that the read was an exclusive store that failed
-/// (Arm IHI 0022E, C4).
+/// The states in which a port may hold the line after a read of this kind, where it holds `held` at
+/// its end. `shared` and `pass` are IsShared and PassDirty of the response, and `failed` says that
+/// the read was an exclusive store that failed (Arm IHI 0022E, C4).
 pub fn end_read(kind: ArKind, held: LineState, shared: bool, pass: bool, failed: bool) -> StateSet
     ensures { result ≡ end_states_of_read kind held shared pass failed }
 {
@@ -108,8 +111,8 @@ pub fn end_read(kind: ArKind, held: LineState, shared: bool, pass: bool, failed:
     })
 }
 
-/// The states in which a port may hold the line after a write of this kind, where it holds `held` at its end
-/// (Arm IHI 0022E, C4).
+/// The states in which a port may hold the line after a write of this kind, where it holds `held`
+/// at its end (Arm IHI 0022E, C4).
 pub fn end_write(kind: AwKind, held: LineState) -> StateSet
     ensures { result ≡ end_states_of_write kind held }
 {

@@ -9,10 +9,17 @@ ghost use Rattle.ace_tables.specs.Picks.{keep_row, eager_row};
 /// Lists of rows, in their order.
 #[tactic(auto, unfolding(crate::specs::Answers::snoop_rows, crate::specs::Answers::rows_to, crate::specs::Answers::rows_among))]
 pub fn worked_rows()
-    ensures shared { snoop_rows ReadShared UD false ≡ record { resp = 9; next = SD } ∷ record { resp = 25; next = SD } ∷ record { resp = 13; next = SC } ∷ record { resp = 29; next = SC } ∷ record { resp = 5; next = I } ∷ record { resp = 21; next = I } ∷ [] }
-    ensures with_update { snoop_rows ReadShared UD true ≡ record { resp = 9; next = SD } ∷ record { resp = 25; next = SD } ∷ [] }
-    ensures unique { snoop_rows ReadUnique UC false ≡ record { resp = 0; next = I } ∷ record { resp = 16; next = I } ∷ record { resp = 1; next = I } ∷ record { resp = 17; next = I } ∷ [] }
-    ensures made_invalid { snoop_rows MakeInvalid UD false ≡ record { resp = 0; next = I } ∷ record { resp = 16; next = I } ∷ [] }
+    ensures shared { snoop_rows ReadShared UD false ≡ record { resp = 9; next = SD }
+        ∷ record { resp = 25; next = SD } ∷ record { resp = 13; next = SC }
+        ∷ record { resp = 29; next = SC } ∷ record { resp = 5; next = I }
+        ∷ record { resp = 21; next = I } ∷ [] }
+    ensures with_update { snoop_rows ReadShared UD true ≡ record { resp = 9; next = SD }
+        ∷ record { resp = 25; next = SD } ∷ [] }
+    ensures unique { snoop_rows ReadUnique UC false ≡ record { resp = 0; next = I }
+        ∷ record { resp = 16; next = I } ∷ record { resp = 1; next = I }
+        ∷ record { resp = 17; next = I } ∷ [] }
+    ensures made_invalid { snoop_rows MakeInvalid UD false ≡ record { resp = 0; next = I }
+        ∷ record { resp = 16; next = I } ∷ [] }
     ensures none { snoop_rows CleanInvalid UD true ≡ [] }
 {}
 

@@ -1,5 +1,6 @@
-//! The tables of cache states: from which state a transaction may start, in which it may end, which snoop it causes, how a
-//! snoop may be answered, and which changes of state a port makes on its own. `docs/TABLES.md` shows them.
+//! The tables of cache states: from which state a transaction may start, in which it may end, which
+//! snoop it causes, how a snoop may be answered, and which changes of state a port makes on its
+//! own. `docs/TABLES.md` shows them.
 #![tactic(auto)]
 
 mod answers;

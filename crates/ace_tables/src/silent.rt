@@ -4,7 +4,8 @@ ghost use Rattle.ace_tables.specs.SilentTransitions.{is_silent_move};
 
 use ace_codes::LineState;
 
-/// Whether a port may change the state of a line like this on its own, without a transaction (Arm IHI 0022E, C4).
+/// Whether a port may change the state of a line like this on its own, without a transaction (Arm
+/// IHI 0022E, C4).
 pub fn silent_ok(from: LineState, to: LineState) -> bool
     ensures { result ≡ is_silent_move from to }
 {

@@ -4,7 +4,8 @@ ghost use Rattle.ace_tables.specs.SnoopKinds.{snoop_of_read, snoop_of_write};
 
 use ace_codes::{ArKind, AwKind, SnoopKind};
 
-/// The snoop that a read causes. None exactly where it causes no snoop of a line (Arm IHI 0022E, C5.1).
+/// The snoop that a read causes. None exactly where it causes no snoop of a line (Arm IHI 0022E,
+/// C5.1).
 pub fn snoop_of_read(kind: ArKind) -> Option<SnoopKind>
     ensures { result ≡ snoop_of_read kind }
 {
@@ -21,7 +22,8 @@ pub fn snoop_of_read(kind: ArKind) -> Option<SnoopKind>
     }
 }
 
-/// The snoop that a write causes. None exactly where it causes no snoop of a line (Arm IHI 0022E, C5.1).
+/// The snoop that a write causes. None exactly where it causes no snoop of a line (Arm IHI 0022E,
+/// C5.1).
 pub fn snoop_of_write(kind: AwKind) -> Option<SnoopKind>
     ensures { result ≡ snoop_of_write kind }
 {

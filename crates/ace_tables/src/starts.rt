@@ -4,8 +4,8 @@ ghost use Rattle.ace_tables.specs.StartStates.{starts_read, starts_write};
 
 use ace_codes::{ArKind, AwKind, LineState};
 
-/// Whether a port that holds the line in this state may issue a read of this kind (Arm IHI 0022E, C4). Barriers and DVM
-/// name no line, and have no such state.
+/// Whether a port that holds the line in this state may issue a read of this kind (Arm IHI 0022E,
+/// C4). Barriers and DVM name no line, and have no such state.
 pub fn start_read_ok(kind: ArKind, held: LineState) -> bool
     ensures { result ≡ starts_read kind held }
 {
@@ -18,8 +18,8 @@ pub fn start_read_ok(kind: ArKind, held: LineState) -> bool
     }
 }
 
-/// Whether a port that holds the line in this state may issue a write of this kind (Arm IHI 0022E, C4). A barrier names no
-/// line, and has no such state.
+/// Whether a port that holds the line in this state may issue a write of this kind (Arm IHI 0022E,
+/// C4). A barrier names no line, and has no such state.
 pub fn start_write_ok(kind: AwKind, held: LineState) -> bool
     ensures { result ≡ starts_write kind held }
 {

@@ -7,4 +7,5 @@ use Rattle.ace_top.specs.Results.{verdict_answer}
 
 -- the answer to the verdict on these bytes
 abbrev pub IsChecked : List ℕ → Answer → Type 0
-IsChecked bytes answer = (verdict : Verdict) × (answer ≡ verdict_answer verdict) × IsVerdict bytes verdict
+IsChecked bytes answer =
+    (verdict : Verdict) × (answer ≡ verdict_answer verdict) × IsVerdict bytes verdict

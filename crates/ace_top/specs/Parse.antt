@@ -1,4 +1,5 @@
--- What the parser of the command line takes, and what it gives of words of which none begins with a hyphen.
+-- What the parser of the command line takes, and what it gives of words of which none begins with a
+-- hyphen.
 use Rattle.std.specs.Prelude.{◌==◌, ℕ, Bool, false, true, List, [], ◌∷◌, Option, None, Some, String, codes, option_map}
 use Rattle.std.specs.List.{list_any}
 use Rattle.std.specs.String.{string_bytes}
@@ -25,8 +26,11 @@ texts_of given = (given.first.now, option_map (λ second. second.now) given.seco
 
 -- a command whose words begin with no name of a program
 abbrev pub bare : App
-bare = let app = new_app (codes "ace") in record app { top = record app.top { no_binary_name = true } }
+bare =
+    let app = new_app (codes "ace") in record app { top = record app.top { no_binary_name = true } }
 
 -- with two positional arguments, of which the second may be absent
 abbrev pub one_or_two : App
-one_or_two = with_rule (with_rule bare (record (new_rule (codes "first")) { required = true })) (new_rule (codes "second"))
+one_or_two =
+    with_rule (with_rule bare (record (new_rule (codes "first")) { required = true }))
+    (new_rule (codes "second"))

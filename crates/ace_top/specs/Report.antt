@@ -22,8 +22,8 @@ abbrev pub ReportsTrace : Account → List ℕ → List ℕ → Type 0
 ReportsTrace account bytes text = (header : Header) × (events : List Event)
     × AreAccepted bytes header events × accounts.IsAccount account header (reverse events) text
 
--- The answer to these bytes, and its text: that of `check`, but of an accepted trace the account that is
--- asked for.
+-- The answer to these bytes, and its text: that of `check`, but of an accepted trace the account
+-- that is asked for.
 abbrev pub IsReported : Account → List ℕ → Answer → List ℕ → Type 0
 IsReported account bytes Reported text = ReportsTrace account bytes text
 IsReported account bytes (Accepted events) text = ⊥

@@ -1,4 +1,5 @@
--- The answer to a verdict, as the reading of a trace that is written ends, and where a script could not be read.
+-- The answer to a verdict, as the reading of a trace that is written ends, and where a script could
+-- not be read.
 use Rattle.ace_script.specs.declared.error.PlanErr.{PlanErr}
 use Rattle.ace_script.specs.declared.error.PlanErr.TheVariants as plan
 use Rattle.ace_convert.specs.declared.end.TraceEnd.{TraceEnd}

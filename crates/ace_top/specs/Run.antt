@@ -39,8 +39,10 @@ IsRan snooping bytes ReadFault text = ⊤
 IsRan snooping bytes NoMemory text = ⊤
 IsRan snooping bytes answer text = ⊥
 
--- The answer where the script that is made from this number is tried: the number of the events of a run of it. Want of memory may take its place.
+-- The answer where the script that is made from this number is tried: the number of the events of a
+-- run of it. Want of memory may take its place.
 abbrev pub IsTried : ℕ → Answer → Type 0
-IsTried number (Tried n events) = (n ≡ number) × ((past : Trace) × IsRunOf (generated number) past × (events ≡ length past))
+IsTried number (Tried n events) =
+    (n ≡ number) × ((past : Trace) × IsRunOf (generated number) past × (events ≡ length past))
 IsTried number NoMemory = ⊤
 IsTried number answer = ⊥

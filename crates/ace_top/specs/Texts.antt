@@ -24,19 +24,27 @@ status_of LimitLines = 6
 status_of LimitOperations = 6
 status_of NoMemory = 7
 
--- what is written to the standard output, beside the text of a trace that is shown or that a run gave, beside an account of a trace, and beside a script
+-- what is written to the standard output, beside the text of a trace that is shown or that a run
+-- gave, beside an account of a trace, and beside a script
 abbrev pub out_text_of : Answer → List ℕ
 out_text_of (Accepted events) = codes "accepted " ++ decimal events ++ codes "\n"
-out_text_of (Refused index rule) = codes "refused event " ++ decimal index ++ codes ": K" ++ decimal rule ++ codes "\n"
-out_text_of (Tried number events) = codes "trial " ++ decimal number ++ codes ": 512 operations, " ++ decimal events ++ codes " events, accepted\n"
+out_text_of (Refused index rule) =
+    codes "refused event " ++ decimal index ++ codes ": K" ++ decimal rule ++ codes "\n"
+out_text_of (Tried number events) =
+    codes "trial " ++ decimal number ++ codes ": 512 operations, "
+    ++ decimal events ++ codes " events, accepted\n"
 out_text_of answer = []
 
 -- what is written to the standard error
 abbrev pub notes_text_of : Answer → List ℕ
 notes_text_of Usage =
     codes "usage: ace check|run [filter]|show|migrate|pack|unpack|report|order|gen N|trial N\n"
-notes_text_of (Malformed line reason) = codes "malformed line " ++ decimal line ++ codes ": F" ++ decimal (number_of_reason reason) ++ codes "\n"
-notes_text_of (MalformedScript line reason) = codes "malformed line " ++ decimal line ++ codes ": P" ++ decimal (script.number_of_reason reason) ++ codes "\n"
+notes_text_of (Malformed line reason) =
+    codes "malformed line " ++ decimal line ++ codes ": F"
+    ++ decimal (number_of_reason reason) ++ codes "\n"
+notes_text_of (MalformedScript line reason) =
+    codes "malformed line " ++ decimal line ++ codes ": P"
+    ++ decimal (script.number_of_reason reason) ++ codes "\n"
 notes_text_of (MalformedRecord byte reason) =
     codes "malformed byte " ++ decimal byte ++ codes ": Z"
     ++ decimal (binary.number_of_reason reason) ++ codes "\n"

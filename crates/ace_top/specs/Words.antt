@@ -54,7 +54,8 @@ IsSomeRun words = (snooping : Snooping) × IsRun words snooping
 
 -- there are two words, this text and this number
 abbrev pub IsNumbered : List (String Global) → List ℕ → ℕ → Type 0
-IsNumbered words text number = (word : List ℕ) × (map string_bytes words ≡ text ∷ word ∷ []) × IsNumber word number
+IsNumbered words text number =
+    (word : List ℕ) × (map string_bytes words ≡ text ∷ word ∷ []) × IsNumber word number
 
 abbrev pub IsGen : List (String Global) → ℕ → Type 0
 IsGen words number = IsNumbered words (codes "gen") number
@@ -73,4 +74,5 @@ IsReadingCommand words = IsTraceCommand words ⊎ IsSomeRun words
 
 -- The words name a command.
 abbrev pub IsCommand : List (String Global) → Type 0
-IsCommand words = IsReadingCommand words ⊎ ((number : ℕ) × (IsGen words number ⊎ IsTrial words number))
+IsCommand words =
+    IsReadingCommand words ⊎ ((number : ℕ) × (IsGen words number ⊎ IsTrial words number))

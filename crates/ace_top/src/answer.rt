@@ -18,7 +18,8 @@ pub enum Answer {
     Accepted {
         events: u64,
     },
-    /// This event, counted from 1, is the first that breaks a rule, and this is the least rule that it breaks.
+    /// This event, counted from 1, is the first that breaks a rule, and this is the least rule that
+    /// it breaks.
     Refused {
         index: u64,
         rule: u8,
@@ -48,7 +49,8 @@ pub enum Answer {
         line: u64,
         reason: ace_script::Reason,
     },
-    /// Behind so many bytes stands the first header or record of a binary trace that is malformed, for this reason.
+    /// Behind so many bytes stands the first header or record of a binary trace that is malformed,
+    /// for this reason.
     MalformedRecord {
         byte: u64,
         reason: BinReason,
@@ -160,7 +162,8 @@ pub fn out_text(answer: Answer) -> ArrayString<96>
     text
 }
 
-/// What is malformed, as the line or byte of this number, and for which reason: the letter of its kind, and its number.
+/// What is malformed, as the line or byte of this number, and for which reason: the letter of its
+/// kind, and its number.
 fn malformed_text(what: &str, place: u64, letter: &str, number: u8) -> ArrayString<96>
     requires what { length what.now ≤ 4 }
     requires letter { length letter.now ≤ 2 }

@@ -21,7 +21,8 @@ pub fn tell_verdict<S: Source, K: Sink, E: Sink>(
     out: &mut K,
     notes: &mut E,
 ) -> u8
-    ensures carried_out { CarriesOut command.Check (S.left input.old) (S.left input.new) result (K.held out.old) (K.held out.new)
+    ensures carried_out { CarriesOut command.Check (S.left input.old)
+        (S.left input.new) result (K.held out.old) (K.held out.new)
         (E.held notes.old) (E.held notes.new) (E.faults notes.old) (E.faults notes.new) }
     ensures cause { HasStatusCause result (S.faults input.old) (S.faults input.new)
         (K.faults out.old) (K.faults out.new) (E.faults notes.old) (E.faults notes.new) }

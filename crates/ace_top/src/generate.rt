@@ -18,8 +18,10 @@ use std::alloc::Global;
 /// Puts the text of a plan of which there is no more use.
 #[tactic(auto, using(crate::proofs::GenerateLemmas::scripts))]
 fn put_plan<K: Sink>(plan: Plan, sink: &mut K) -> Result<(), WriteErr>
-    ensures whole { OnOk result (Appends (K.held sink.old) (K.held sink.new) (plan_text plan.plan)) }
-    ensures part { OnErr result (AppendsPart (K.held sink.old) (K.held sink.new) (plan_text plan.plan)) }
+    ensures whole { OnOk result (Appends (K.held sink.old) (K.held sink.new)
+        (plan_text plan.plan)) }
+    ensures part { OnErr result (AppendsPart (K.held sink.old) (K.held sink.new)
+        (plan_text plan.plan)) }
     ensures cause { HasCause (K.faults sink.old) (K.faults sink.new) result }
 {
     plan.put(sink)
@@ -27,9 +29,11 @@ fn put_plan<K: Sink>(plan: Plan, sink: &mut K) -> Result<(), WriteErr>
 
 /// Writes the script that is made from this number, and returns the status. No input is read.
 pub fn write_script<K: Sink, E: Sink>(alloc: Global, number: u64, out: &mut K, notes: &mut E) -> u8
-    ensures carried_out { (input : Option (List ℕ)) → CarriesOut (command.Gen number) input input result (K.held out.old) (K.held out.new)
+    ensures carried_out { (input : Option (List ℕ))
+        → CarriesOut (command.Gen number) input input result (K.held out.old) (K.held out.new)
         (E.held notes.old) (E.held notes.new) (E.faults notes.old) (E.faults notes.new) }
-    ensures write_fault { result ≡ 5 → Rose (K.faults out.old) (K.faults out.new) ⊎ Rose (E.faults notes.old) (E.faults notes.new) }
+    ensures write_fault { result ≡ 5 → Rose (K.faults out.old) (K.faults out.new)
+        ⊎ Rose (E.faults notes.old) (E.faults notes.new) }
     ensures out_steady { result ≢ 5 → K.faults out.new ≡ K.faults out.old }
     ensures notes_steady { result ≢ 5 → E.faults notes.new ≡ E.faults notes.old }
     ensures status { (result ≡ 0) ⊎ (result ≡ 5) ⊎ (result ≡ 7) }

@@ -1,4 +1,5 @@
-// The words as a parser takes them: one command with two positional arguments, the second of which may be absent.
+// The words as a parser takes them: one command with two positional arguments, the second of which
+// may be absent.
 ghost use Rattle.std.specs.Prelude.{◌≡◌, false, map, option_map, IfOk};
 ghost use Rattle.std.specs.String.{string_bytes};
 ghost use Rattle.clap.specs.Words.{app_of};
@@ -32,7 +33,8 @@ pub fn parse_words<'a>(
     words: &'a [String],
 ) -> Result<Option<Positionals<'a>>, NoMemory>
     requires { any_hyphen words.now ≡ false }
-    ensures { IfOk result (λ given. option_map texts_of given ≡ positionals (map string_bytes words.now)) }
+    ensures { IfOk result (λ given. option_map texts_of given
+        ≡ positionals (map string_bytes words.now)) }
 {
     let Ok(mut command) = parser(alloc) else {
         return Err(NoMemory);

@@ -63,12 +63,17 @@ fn put_events<K: Sink>(writer: &mut Writer<K>, events: &[Event]) -> Result<(), W
     requires range { AllByRecursion (IsWritable (version_of writer.old)) events.now }
     requires unfailed { has_failed writer.old ≡ false }
     ensures same_sink { (sink_of writer.new).ghost_name ≡ (sink_of writer.old).ghost_name }
-    ensures text { (before : Option (List ℕ)) (text : List ℕ) → GivesFront K.held before text writer.old
-        → OnOk result (GivesFront K.held before (text ++ events_text (version_of writer.old) events.now) writer.new) }
-    ensures part { (before : Option (List ℕ)) (text : List ℕ) → GivesFront K.held before text writer.old
-        → OnErr result (AppendsPart before (K.held (sink_of writer.new).now) (text ++ events_text (version_of writer.old) events.now)) }
+    ensures text { (before : Option (List ℕ)) (text : List ℕ)
+        → GivesFront K.held before text writer.old
+        → OnOk result (GivesFront K.held before
+        (text ++ events_text (version_of writer.old) events.now) writer.new) }
+    ensures part { (before : Option (List ℕ)) (text : List ℕ)
+        → GivesFront K.held before text writer.old
+        → OnErr result (AppendsPart before (K.held (sink_of writer.new).now)
+        (text ++ events_text (version_of writer.old) events.now)) }
     ensures failed { has_failed writer.new ≡ is_err result }
-    ensures cause { HasCause (K.faults (sink_of writer.old).now) (K.faults (sink_of writer.new).now) result }
+    ensures cause { HasCause (K.faults (sink_of writer.old).now)
+        (K.faults (sink_of writer.new).now) result }
 {
     for event in events {
         types_fit(event);
@@ -86,11 +91,16 @@ fn give_events<K: Sink>(writer: &mut Writer<K>, events: &[Event]) -> Result<(), 
     requires range { AllByRecursion (IsWritable (version_of writer.old)) events.now }
     requires unfailed { has_failed writer.old ≡ false }
     ensures same_sink { (sink_of writer.new).ghost_name ≡ (sink_of writer.old).ghost_name }
-    ensures whole { (before : Option (List ℕ)) (text : List ℕ) → GivesFront K.held before text writer.old
-        → OnOk result (Appends before (K.held (sink_of writer.new).now) (text ++ events_text (version_of writer.old) events.now)) }
-    ensures part { (before : Option (List ℕ)) (text : List ℕ) → GivesFront K.held before text writer.old
-        → OnErr result (AppendsPart before (K.held (sink_of writer.new).now) (text ++ events_text (version_of writer.old) events.now)) }
-    ensures cause { HasCause (K.faults (sink_of writer.old).now) (K.faults (sink_of writer.new).now) result }
+    ensures whole { (before : Option (List ℕ)) (text : List ℕ)
+        → GivesFront K.held before text writer.old
+        → OnOk result (Appends before (K.held (sink_of writer.new).now)
+        (text ++ events_text (version_of writer.old) events.now)) }
+    ensures part { (before : Option (List ℕ)) (text : List ℕ)
+        → GivesFront K.held before text writer.old
+        → OnErr result (AppendsPart before (K.held (sink_of writer.new).now)
+        (text ++ events_text (version_of writer.old) events.now)) }
+    ensures cause { HasCause (K.faults (sink_of writer.old).now)
+        (K.faults (sink_of writer.new).now) result }
 {
     match put_events(writer, events) {
         Ok(()) => writer.flush(),
@@ -103,8 +113,10 @@ fn give_events<K: Sink>(writer: &mut Writer<K>, events: &[Event]) -> Result<(), 
 fn put_trace<K: Sink>(header: &Header, events: &[Event], out: &mut K) -> Result<(), WriteErr>
     requires header { IsHeader header.now }
     requires range { AllByRecursion (IsWritable header.now.version) events.now }
-    ensures whole { OnOk result (Appends (K.held out.old) (K.held out.new) (trace_text header.now events.now)) }
-    ensures part { OnErr result (AppendsPart (K.held out.old) (K.held out.new) (trace_text header.now events.now)) }
+    ensures whole { OnOk result (Appends (K.held out.old) (K.held out.new)
+        (trace_text header.now events.now)) }
+    ensures part { OnErr result (AppendsPart (K.held out.old) (K.held out.new)
+        (trace_text header.now events.now)) }
     ensures cause { HasCause (K.faults out.old) (K.faults out.new) result }
 {
     let mut writer = Writer::start(out, header)?;
@@ -133,8 +145,10 @@ fn write_run<K: Sink>(system: &System, out: &mut K) -> Result<(), WriteErr>
     requires done { Done system.now.plan system.now.past }
     ensures script { IsScript system.now.plan }
     ensures run { IsRunOf system.now.plan system.now.past }
-    ensures whole { OnOk result (Appends (K.held out.old) (K.held out.new) (trace_text system.now.plan.header (reverse system.now.past))) }
-    ensures part { OnErr result (AppendsPart (K.held out.old) (K.held out.new) (trace_text system.now.plan.header (reverse system.now.past))) }
+    ensures whole { OnOk result (Appends (K.held out.old) (K.held out.new)
+        (trace_text system.now.plan.header (reverse system.now.past))) }
+    ensures part { OnErr result (AppendsPart (K.held out.old) (K.held out.new)
+        (trace_text system.now.plan.header (reverse system.now.past))) }
     ensures cause { HasCause (K.faults out.old) (K.faults out.new) result }
 {
     is_run(system);
@@ -148,8 +162,10 @@ fn put_run<K: Sink>(system: System, out: &mut K) -> Result<(), WriteErr>
     requires done { Done system.plan system.past }
     ensures script { IsScript system.plan }
     ensures run { IsRunOf system.plan system.past }
-    ensures whole { OnOk result (Appends (K.held out.old) (K.held out.new) (trace_text system.plan.header (reverse system.past))) }
-    ensures part { OnErr result (AppendsPart (K.held out.old) (K.held out.new) (trace_text system.plan.header (reverse system.past))) }
+    ensures whole { OnOk result (Appends (K.held out.old) (K.held out.new)
+        (trace_text system.plan.header (reverse system.past))) }
+    ensures part { OnErr result (AppendsPart (K.held out.old) (K.held out.new)
+        (trace_text system.plan.header (reverse system.past))) }
     ensures cause { HasCause (K.faults out.old) (K.faults out.new) result }
 {
     let written = write_run(&system, out);
@@ -185,10 +201,12 @@ fn run<R: Threads + Wait + Sync, S: Source, G: Gate + Sync>(
 ) -> Result<System, PlanErr>
     ensures done { IfOk result (λ s. Done s.plan s.past) }
     ensures snoops { IfOk result (λ s. SnoopsBy snooping s.plan.header s.past) }
-    ensures script { IfOk result (λ s. IfSome (S.left input.old) (λ bytes. Reads bytes s.plan Whole)) }
+    ensures script { IfOk result (λ s. IfSome (S.left input.old)
+        (λ bytes. Reads bytes s.plan Whole)) }
     ensures end { OnOk result (IsAtEnd (S.left input.new)) }
     ensures steady { OnOk result (S.faults input.new ≡ S.faults input.old) }
-    ensures none { IfErr result (λ error. HasNoPlan error (S.left input.old) (S.faults input.old) (S.faults input.new)) }
+    ensures none { IfErr result (λ error. HasNoPlan error (S.left input.old)
+        (S.faults input.old) (S.faults input.new)) }
 {
     match Plan::read(alloc, input) {
         Ok(plan) => {
@@ -203,7 +221,8 @@ fn run<R: Threads + Wait + Sync, S: Source, G: Gate + Sync>(
     }
 }
 
-/// Runs the script that the input gives, and writes the trace of the run; returns the status. Nothing is written before the run has ended.
+/// Runs the script that the input gives, and writes the trace of the run; returns the status.
+/// Nothing is written before the run has ended.
 #[tactic(auto, using(crate::proofs::RunLemmas::plans))]
 pub fn run_script<R: Threads + Wait + Sync, S: Source, K: Sink, E: Sink, G: Gate + Sync>(
     rt: &R,
@@ -214,7 +233,8 @@ pub fn run_script<R: Threads + Wait + Sync, S: Source, K: Sink, E: Sink, G: Gate
     gate: &G,
     snooping: Snooping,
 ) -> u8
-    ensures carried_out { CarriesOut (command.Run snooping) (S.left input.old) (S.left input.new) result (K.held out.old) (K.held out.new)
+    ensures carried_out { CarriesOut (command.Run snooping) (S.left input.old)
+        (S.left input.new) result (K.held out.old) (K.held out.new)
         (E.held notes.old) (E.held notes.new) (E.faults notes.old) (E.faults notes.new) }
     ensures cause { HasStatusCause result (S.faults input.old) (S.faults input.new)
         (K.faults out.old) (K.faults out.new) (E.faults notes.old) (E.faults notes.new) }

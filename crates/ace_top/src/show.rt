@@ -1,4 +1,5 @@
-// Writes a trace of a trace: its own text, as it reads, the same in version 2, its binary form, or the text of a binary one.
+// Writes a trace of a trace: its own text, as it reads, the same in version 2, its binary form, or
+// the text of a binary one.
 ghost use Rattle.std.specs.Prelude.{◌≡◌};
 ghost use Rattle.ace_grammar.specs.Errors.{LeavesNothing};
 ghost use Rattle.ace_top.specs.Answer.{CarriesOut, HasStatusCause};
@@ -20,7 +21,8 @@ pub fn write_out<S: Source, K: Sink, E: Sink>(
     notes: &mut E,
     conversion: Conversion,
 ) -> u8
-    ensures carried_out { CarriesOut (command.Convert conversion) (S.left input.old) (S.left input.new)
+    ensures carried_out { CarriesOut (command.Convert conversion)
+        (S.left input.old) (S.left input.new)
         result (K.held out.old) (K.held out.new)
         (E.held notes.old) (E.held notes.new) (E.faults notes.old) (E.faults notes.new) }
     ensures cause { HasStatusCause result (S.faults input.old) (S.faults input.new)

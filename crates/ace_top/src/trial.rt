@@ -24,9 +24,11 @@ fn events_of(system: System) -> u64
     events
 }
 
-/// Runs the script that is made from this number, without threads: how many events the trace of the run has.
+/// Runs the script that is made from this number, without threads: how many events the trace of the
+/// run has.
 fn try_script(alloc: Global, number: u64) -> Result<u64, NoMemory>
-    ensures { IfOk result (λ events. (past : Trace) × IsRunOf (generated number) past × (events ≡ length past)) }
+    ensures { IfOk result (λ events. (past : Trace) × IsRunOf (generated number) past
+        × (events ≡ length past)) }
 {
     let plan = Plan::generate(alloc, number)?;
     let mut system = System::start(alloc, &plan)?;
@@ -35,11 +37,14 @@ fn try_script(alloc: Global, number: u64) -> Result<u64, NoMemory>
     Ok(events_of(system))
 }
 
-/// Runs the script that is made from this number, and tells of the run; returns the status. No input is read.
+/// Runs the script that is made from this number, and tells of the run; returns the status. No
+/// input is read.
 pub fn tell_trial<K: Sink, E: Sink>(alloc: Global, number: u64, out: &mut K, notes: &mut E) -> u8
-    ensures carried_out { (input : Option (List ℕ)) → CarriesOut (command.Trial number) input input result (K.held out.old) (K.held out.new)
+    ensures carried_out { (input : Option (List ℕ))
+        → CarriesOut (command.Trial number) input input result (K.held out.old) (K.held out.new)
         (E.held notes.old) (E.held notes.new) (E.faults notes.old) (E.faults notes.new) }
-    ensures write_fault { result ≡ 5 → Rose (K.faults out.old) (K.faults out.new) ⊎ Rose (E.faults notes.old) (E.faults notes.new) }
+    ensures write_fault { result ≡ 5 → Rose (K.faults out.old) (K.faults out.new)
+        ⊎ Rose (E.faults notes.old) (E.faults notes.new) }
     ensures out_steady { result ≢ 5 → K.faults out.new ≡ K.faults out.old }
     ensures notes_steady { result ≢ 5 → E.faults notes.new ≡ E.faults notes.old }
     ensures status { (result ≡ 0) ⊎ (result ≡ 5) ⊎ (result ≡ 7) }

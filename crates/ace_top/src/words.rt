@@ -121,7 +121,8 @@ fn two_words(text: &str, word: &str) -> Option<Command>
 /// The command that the words name. There may be no memory to parse them.
 #[tactic(auto, using(crate::proofs::Hyphens::no_hyphen))]
 pub fn command_of(alloc: Global, words: &[String]) -> Result<Option<Command>, NoMemory>
-    ensures { IfOk result (λ command. MatchOption command (¬ IsCommand words.now) (Names words.now)) }
+    ensures { IfOk result (λ command. MatchOption command (¬ IsCommand words.now)
+        (Names words.now)) }
 {
     if has_hyphen(words) {
         return Ok(None);

@@ -243,8 +243,8 @@ fn answer<R: Threads + Wait + Sync, S: Source>(
     Ok(Answered { status, out, notes })
 }
 
-/// Whether a call over an input in pieces of so many bytes, of which these takes fail, and over outputs with so much room, has this
-/// status and leaves these texts.
+/// Whether a call over an input in pieces of so many bytes, of which these takes fail, and over
+/// outputs with so much room, has this status and leaves these texts.
 fn answers<R: Threads + Wait + Sync>(
     rt: &R,
     alloc: Global,
@@ -279,7 +279,8 @@ fn in_any_pieces<R: Threads + Wait + Sync>(
     Ok(true)
 }
 
-/// Whether a standard output of each room below that of the text gets a front of it, and the notes are told.
+/// Whether a standard output of each room below that of the text gets a front of it, and the notes
+/// are told.
 fn breaks_off<R: Threads + Wait + Sync>(
     rt: &R,
     alloc: Global,
@@ -537,7 +538,8 @@ fn scripts_of_numbers(rt: HostRuntime) -> Result<(), Fail> {
     Ok(())
 }
 
-/// Whether the script of 42 breaks off where so much room is left, after a front of the whole, and the notes hold what is told.
+/// Whether the script of 42 breaks off where so much room is left, after a front of the whole, and
+/// the notes hold what is told.
 fn breaks_off_at<R: Threads + Wait + Sync>(
     rt: &R,
     alloc: Global,
@@ -648,7 +650,8 @@ fn words_of_no_command(rt: HostRuntime) -> Result<(), Fail> {
     Ok(())
 }
 
-/// Whether notes with so much room are told that there was no memory for the words, with this status.
+/// Whether notes with so much room are told that there was no memory for the words, with this
+/// status.
 fn tells_no_memory(alloc: Global, room: usize, status: u8, told: &str) -> Result<bool, Fail> {
     let mut out = MemSink::new(alloc, 99, &[])?;
     let mut notes = MemSink::new(alloc, room, &[])?;

@@ -7,8 +7,9 @@ use ace_grammar::{NO_EVENT, Reader};
 use ace_io::MemSource;
 use std::alloc::Global;
 
-/// How many events of a text, of which a source gives so many bytes at once, are handed over one after another to the place of an
-/// event, and what stands there then. None where there is no reader of the text.
+/// How many events of a text, of which a source gives so many bytes at once, are handed over one
+/// after another to the place of an event, and what stands there then. None where there is no
+/// reader of the text.
 fn handed(alloc: Global, text: &[u8], size: usize) -> Option<(u8, Event)>
     requires { 0 < size }
 {
@@ -37,8 +38,8 @@ fn are_handed(alloc: Global, text: &[u8], size: usize, count: u8, last: &Event) 
     }
 }
 
-/// Whether one call hands all of the text's events over to the place of an event, of which a source gives so many bytes at once, and
-/// leaves this one there.
+/// Whether one call hands all of the text's events over to the place of an event, of which a source
+/// gives so many bytes at once, and leaves this one there.
 fn are_all_handed(alloc: Global, text: &[u8], size: usize, last: &Event) -> bool
     requires { 0 < size }
 {

@@ -6,8 +6,8 @@ use ace_grammar::{ReadErr, Reader, Reason};
 use ace_io::{HonestSource, MemSink, MemSource, Sink, Source};
 use std::alloc::Global;
 
-/// Whether the next call reads an event, where one is said to come, and else answers this end: that of a trace with this
-/// header, or this error.
+/// Whether the next call reads an event, where one is said to come, and else answers this end: that
+/// of a trace with this header, or this error.
 fn answers<S: Source>(
     reader: &mut Reader<S>,
     has_event: bool,
@@ -34,7 +34,8 @@ pub fn has_rest<S: Source>(
     true
 }
 
-/// Whether the source is a trace of so many events with this end. Where there is no header, there is no count.
+/// Whether the source is a trace of so many events with this end. Where there is no header, there
+/// is no count.
 fn is_trace<S: Source>(
     alloc: Global,
     source: &mut S,
@@ -90,7 +91,8 @@ fn reason_of(digit: u8) -> Reason {
     }
 }
 
-/// How the reading of a text ends whose line of this number is malformed for the reason of this number.
+/// How the reading of a text ends whose line of this number is malformed for the reason of this
+/// number.
 fn malformed(line: u8, reason: u8) -> Result<Header, ReadErr> {
     Err(ReadErr::Malformed {
         line: u64::from(line.wrapping_sub(b'0')),
@@ -112,8 +114,9 @@ fn stops(alloc: Global, row: &[u8]) -> bool {
     }
 }
 
-/// How many of the texts, which bars part, stop as their three digits say, up to the first that doesn't. The digits are how
-/// many events are read, or `-` where there is no header, the number of the malformed line and that of its reason.
+/// How many of the texts, which bars part, stop as their three digits say, up to the first that
+/// doesn't. The digits are how many events are read, or `-` where there is no header, the number of
+/// the malformed line and that of its reason.
 fn stopped(alloc: Global, rows: &str) -> usize {
     let mut count: usize = 0;
     for row in rows.split('|') {
@@ -252,7 +255,8 @@ fn tells_a_read_fault(rt: HostRuntime) {
     assert!(rt; ends_at_fault(alloc, 2, Some(0)) && ends_at_fault(alloc, 3, Some(1)));
 }
 
-/// Whether the start of a reader fails, and the source that it hands back then gives four bytes, the first of these.
+/// Whether the start of a reader fails, and the source that it hands back then gives four bytes,
+/// the first of these.
 fn hands_back<S: Source>(alloc: Global, source: &mut S, bytes: &[u8; 8]) -> bool {
     match Reader::start(alloc, source) {
         Ok(_) => false,

@@ -1,4 +1,5 @@
-// Malformed lines, and the least reason that applies to each. The number of the reason, a digit, stands before each line.
+// Malformed lines, and the least reason that applies to each. The number of the reason, a digit,
+// stands before each line.
 
 use ace_grammar::parse_event;
 
@@ -225,7 +226,8 @@ fn is_refused(row: &[u8], version: u8) -> bool {
     }
 }
 
-/// How many lines of the text are malformed for the reason of their digit, up to the first that isn't.
+/// How many lines of the text are malformed for the reason of their digit, up to the first that
+/// isn't.
 fn refused(text: &str, version: u8) -> usize {
     let mut count: usize = 0;
     for row in text.split('\n') {

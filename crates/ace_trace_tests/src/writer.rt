@@ -33,7 +33,8 @@ const SECOND_HEADER_TEXT: &[u8] = b"ACE 2\nPORTS ALA\n";
 fn write_one<K: Sink>(sink: &mut K, header: &Header, event: &Event) -> Result<(), WriteErr>
     requires header { IsHeader header.now }
     requires event { InRange header.now.version event.now }
-    ensures { OnOk result (Appends (K.held sink.old) (K.held sink.new) (header_text header.now ++ line_text (event_text header.now.version event.now))) }
+    ensures { OnOk result (Appends (K.held sink.old) (K.held sink.new)
+        (header_text header.now ++ line_text (event_text header.now.version event.now))) }
 {
     match Writer::start(sink, header) {
         Ok(mut writer) => match writer.put(event) {
@@ -325,7 +326,8 @@ fn writes_each_record(rt: HostRuntime) {
     );
 }
 
-/// Puts so many events of the shortest line and gives the rest: whether all went well, and how many bytes it says that it gave.
+/// Puts so many events of the shortest line and gives the rest: whether all went well, and how many
+/// bytes it says that it gave.
 fn write_many<K: Sink>(sink: &mut K, count: usize) -> (bool, u64) {
     match Writer::start(sink, &HEADER) {
         Ok(mut writer) => {
@@ -345,7 +347,8 @@ fn write_many<K: Sink>(sink: &mut K, count: usize) -> (bool, u64) {
     }
 }
 
-/// The byte at this place of the text of many such events: a line has eight bytes, and the header two times as many.
+/// The byte at this place of the text of many such events: a line has eight bytes, and the header
+/// two times as many.
 fn byte_at(place: usize) -> Option<u8> {
     match HEADER_TEXT.get(place) {
         Some(byte) => Some(*byte),
@@ -363,7 +366,8 @@ fn is_front(given: &[u8], len: usize) -> bool {
     given.len() == len
 }
 
-/// Whether a sink with this room and one failing give has so many bytes of so many events, and whether the writer says so.
+/// Whether a sink with this room and one failing give has so many bytes of so many events, and
+/// whether the writer says so.
 fn gives_so(
     alloc: Global,
     count: usize,
@@ -380,7 +384,8 @@ fn gives_so(
     }
 }
 
-/// How many events there are, the room of the sink, the give that fails, whether all is given, and how many bytes.
+/// How many events there are, the room of the sink, the give that fails, whether all is given, and
+/// how many bytes.
 #[test]
 fn stops_at_a_failing_give(rt: HostRuntime) {
     let alloc = rt.alloc();

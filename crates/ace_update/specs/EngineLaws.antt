@@ -12,7 +12,8 @@ pub legal : (s : Update) (plan : Plan) (past : Trace) → UpdateStands s plan pa
 legal s plan past stands = stands.legal
 
 -- it doesn't look at the operations of the plan
-pub grows : (s : Update) (plan : Plan) (past : Trace) (o : PlanOp) → UpdateStands s plan past → IsRight (longer plan o)
+pub grows : (s : Update) (plan : Plan) (past : Trace) (o : PlanOp)
+    → UpdateStands s plan past → IsRight (longer plan o)
     → is_their_operation OfUpdates (λ _. true) o ≡ false → UpdateStands s (longer plan o) past
 grows s plan past o stands right other = record {
   legal = legal-longer plan past o stands.legal right;

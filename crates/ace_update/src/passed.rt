@@ -99,7 +99,8 @@ impl PassedLines {
     }
 
     fn add(&mut self, line: Option<u32>)
-        ensures items { length self.old.lines.items < vec_capacity self.old.lines → self.new.lines.items ≡ with_line line self.old.lines.items }
+        ensures items { length self.old.lines.items < vec_capacity self.old.lines
+            → self.new.lines.items ≡ with_line line self.old.lines.items }
         ensures room { vec_capacity self.old.lines ≤ vec_capacity self.new.lines }
     {
         if let Some(line) = line {

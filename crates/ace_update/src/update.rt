@@ -23,8 +23,9 @@ use ace_model::{MOST_SNOOPS, PlanView, Transaction};
 use ace_portck::{PortCheck, Progress, WriteData};
 use std::alloc::Global;
 
-/// The engine of memory updates and Evicts: once the data of an update are whole, and the line's granted transaction has no passed data, it
-/// writes them to memory and responds; to an Evict it responds at once.
+/// The engine of memory updates and Evicts: once the data of an update are whole, and the line's
+/// granted transaction has no passed data, it writes them to memory and responds; to an Evict it
+/// responds at once.
 #[derive(Drop)]
 pub struct Update {
     ports: PortCheck,
@@ -32,7 +33,8 @@ pub struct Update {
 }
 
 impl Update {
-    /// The engine for a plan and the empty trace. It takes all the memory that it will need, whatever the length of the plan is.
+    /// The engine for a plan and the empty trace. It takes all the memory that it will need,
+    /// whatever the length of the plan is.
     ///
     /// # Errors
     ///
@@ -50,7 +52,8 @@ impl Update {
 
     /// The burst of a write that has written no memory yet, where it is whole.
     fn data(&self, write: &Transaction) -> Option<WriteData>
-        ensures { (plan : Plan) (past : Trace) (p : ℕ) (k : ℕ) → UpdateStands self.now plan past → slice_get (pending_of plan.header past p Write) k ≡ Some write.now
+        ensures { (plan : Plan) (past : Trace) (p : ℕ) (k : ℕ) → UpdateStands self.now plan past
+            → slice_get (pending_of plan.header past p Write) k ≡ Some write.now
             → result ≡ data_of_write past write.now }
     {
         self.ports
@@ -60,8 +63,11 @@ impl Update {
 
     /// An outstanding write may have its burst of step 3. No granted one is an update or an Evict.
     fn is_due(&self, x: &Progress) -> bool
-        ensures { (plan : Plan) (past : Trace) (p : ℕ) (k : ℕ) (y : Transaction) → UpdateStands self.now plan past → slice_get (pending_of plan.header past p Write) k ≡ Some y
-            → x.now ≡ progress_of plan.header past y → result ≡ may_begin plan.header past (update_burst plan.header past y) }
+        ensures { (plan : Plan) (past : Trace) (p : ℕ) (k : ℕ) (y : Transaction)
+            → UpdateStands self.now plan past → slice_get (pending_of plan.header past p Write) k
+            ≡ Some y
+            → x.now ≡ progress_of plan.header past y
+            → result ≡ may_begin plan.header past (update_burst plan.header past y) }
     {
         let write = &x.transaction;
         if x.granted {
@@ -76,8 +82,11 @@ impl Update {
 
     /// The first outstanding write of the port that may have its burst of step 3.
     fn due(&self, port: u8) -> Option<Transaction>
-        ensures some { (x : Transaction) → result ≡ Some x → (plan : Plan) (past : Trace) → UpdateStands self.now plan past → IsDue plan.header past port x }
-        ensures none { result ≡ None → (plan : Plan) (past : Trace) → UpdateStands self.now plan past → may_serve update_burst plan.header past port ≡ false }
+        ensures some { (x : Transaction) → result ≡ Some x → (plan : Plan) (past : Trace)
+            → UpdateStands self.now plan past → IsDue plan.header past port x }
+        ensures none { result ≡ None → (plan : Plan) (past : Trace)
+            → UpdateStands self.now plan past → may_serve update_burst plan.header past port
+            ≡ false }
     {
         let writes = self.ports.writes(port);
         for i in 0..writes.len() {
@@ -90,7 +99,8 @@ impl Update {
 
     /// Hears the next event of the trace.
     fn note(&mut self, event: &Event)
-        ensures { (plan : Plan) (past : Trace) → UpdateStands self.old plan past → IsLegal plan (event.now ∷ past) → UpdateStands self.new plan (event.now ∷ past) }
+        ensures { (plan : Plan) (past : Trace) → UpdateStands self.old plan past
+            → IsLegal plan (event.now ∷ past) → UpdateStands self.new plan (event.now ∷ past) }
     {
         self.passed.hear(event, &self.ports);
         self.ports.hear(event);
@@ -99,7 +109,8 @@ impl Update {
     /// Hears the event, and puts it in the burst.
     fn put(&mut self, event: Event, out: &mut Burst)
         requires { length out.old < 16 }
-        ensures stands { (plan : Plan) (past : Trace) → UpdateStands self.old plan past → IsLegal plan (event ∷ past) → UpdateStands self.new plan (event ∷ past) }
+        ensures stands { (plan : Plan) (past : Trace) → UpdateStands self.old plan past
+            → IsLegal plan (event ∷ past) → UpdateStands self.new plan (event ∷ past) }
         ensures burst { out.new ≡ out.old ++ event ∷ [] }
     {
         self.note(&event);
@@ -110,7 +121,8 @@ impl Update {
     fn write_memory(&mut self, write: &Transaction, out: &mut Burst)
         requires empty { out.old ≡ [] }
         requires updates { updates_memory write.now ≡ true }
-        ensures { (plan : Plan) (past : Trace) (p : ℕ) → UpdateStands self.old plan past → IsDue plan.header past p write.now → IsTurn self.new plan past p out.new }
+        ensures { (plan : Plan) (past : Trace) (p : ℕ) → UpdateStands self.old plan past
+            → IsDue plan.header past p write.now → IsTurn self.new plan past p out.new }
     {
         let Some(data) = self.data(write) else {
             return;
@@ -134,7 +146,8 @@ impl Update {
     fn respond(&mut self, write: &Transaction, out: &mut Burst)
         requires empty { out.old ≡ [] }
         requires evicts { updates_memory write.now ≡ false }
-        ensures { (plan : Plan) (past : Trace) (p : ℕ) → UpdateStands self.old plan past → IsDue plan.header past p write.now → IsTurn self.new plan past p out.new }
+        ensures { (plan : Plan) (past : Trace) (p : ℕ) → UpdateStands self.old plan past
+            → IsDue plan.header past p write.now → IsTurn self.new plan past p out.new }
     {
         let response = Event::B {
             port: write.port,

@@ -12,7 +12,8 @@ use Rattle.ace_verdict.specs.declared.verdict.Verdict.TheVariants.{Accepted}
 -- The bytes are the text of a trace, at whose end so many transactions are outstanding.
 abbrev pub LeavesOutstanding : List ℕ → ℕ → Type 0
 LeavesOutstanding bytes count =
-    (header : Header) × (events : List Event) × IsReadableHeader header × AllByRecursion (IsReadable header.version) events
+    (header : Header) × (events : List Event) × IsReadableHeader header
+    × AllByRecursion (IsReadable header.version) events
     × (bytes ≡ trace_text header events) × (count ≡ outstanding_count header (reverse events))
 
 -- So many are outstanding at the end of the trace that is accepted; of another none are told.

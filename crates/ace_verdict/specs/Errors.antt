@@ -12,7 +12,8 @@ refusal_of TooManyEvents = verdict.LimitEvents
 refusal_of ReadFault = verdict.ReadFault
 refusal_of NoMemory = verdict.NoMemory
 
--- how the reading of a trace ends with such an answer of its reader: at the end of the trace, or by an error
+-- how the reading of a trace ends with such an answer of its reader: at the end of the trace, or by
+-- an error
 abbrev pub ends_so : Result (Option Event) ReadErr → Result ⊤ Verdict
 ends_so (Ok next) = Ok tt
 ends_so (Err error) = Err (refusal_of error)

@@ -35,8 +35,8 @@ fed_verdict (Err lacks.TooManyLines) = Some LimitLines
 abbrev pub asked_of : Follower → Option Account
 asked_of f = option_map listening.account_of f.listener
 
--- The follower has come to the end of an accepted trace: its checker, of so many lines, stands for it,
--- and what hears it has heard it, where an account is asked for. Nothing has ended the check.
+-- The follower has come to the end of an accepted trace: its checker, of so many lines, stands for
+-- it, and what hears it has heard it, where an account is asked for. Nothing has ended the check.
 pub record Follows (lines : ℕ) (f : Follower) (h : Header) (past : Trace) : Type 0 where
   pub checker : check.StandsWithin lines f.checker h past None
   pub listener : IfSome f.listener (λ l. listening.Stands l h past)
@@ -46,7 +46,8 @@ pub record Follows (lines : ℕ) (f : Follower) (h : Header) (past : Trace) : Ty
 -- The follower has followed one event more, which is fine; or it ended the check, with its verdict.
 pub record HasTaken (old : Follower) (event : Event) (new : Follower) : Type 0 where
   pub fine : (lines : ℕ) (h : Header) (past : Trace) → Follows lines old h past
-      → IfNone new.stop ((least_broken h past event ≡ None) × (goes_over_within lines past event ≡ false))
+      → IfNone new.stop ((least_broken h past event ≡ None)
+      × (goes_over_within lines past event ≡ false))
   pub follows : (limits : Limits) (h : Header) (past : Trace) → Follows limits.lines old h past
       → CanFollow (asked_of old) limits → length past < limits.events
       → IfNone new.stop (Follows limits.lines new h (event ∷ past))
@@ -65,21 +66,27 @@ TakesOn old event new = (old.stop ≡ None) × HasTaken old event new
 
 -- The follower and the reader, of the same limits, are at the start of a trace.
 abbrev pub IsReady : {S : Type 0} {g : Ghosts S} → Limits → Follower → Reader S g → Type 0
-IsReady limits f reader = CanFollow (asked_of f) limits × (most_of reader ≡ limits.events) × Follows limits.lines f (header_of reader) []
+IsReady limits f reader =
+    CanFollow (asked_of f) limits × (most_of reader ≡ limits.events)
+    × Follows limits.lines f (header_of reader) []
 
 -- Since nothing but a header was read, so many events were read and followed, each of them fine.
 abbrev pub HasCome : Limits → Follower → ℕ → Header → Option (List ℕ) → Option (List ℕ) → Type 0
-HasCome limits f count h start left = (past : Trace) × Follows limits.lines f h past × (count ≡ length past)
-    × ((told : Option (List ℕ)) → StandsAt limits.lines told h [] start → StandsAt limits.lines told h past left)
+HasCome limits f count h start left =
+    (past : Trace) × Follows limits.lines f h past × (count ≡ length past)
+    × ((told : Option (List ℕ)) → StandsAt limits.lines told h [] start
+    → StandsAt limits.lines told h past left)
 
 -- The same where nothing has ended the check; else its verdict is the verdict of the bytes.
 abbrev pub HasComeTo : Limits → Option Verdict → Follower → ℕ → Header
     → Option (List ℕ) → Option (List ℕ) → Type 0
 HasComeTo limits None f count h start left = HasCome limits f count h start left
-HasComeTo limits (Some verdict) f count h start left = (told : Option (List ℕ)) → StandsAt limits.lines told h [] start
+HasComeTo limits (Some verdict) f count h start left =
+    (told : Option (List ℕ)) → StandsAt limits.lines told h [] start
     → IfSome told (λ bytes. IsVerdictWithin limits bytes verdict)
 
--- The follower has come to the end of an accepted trace. Where the bytes are told, they are that trace within the limits, and nothing ends its check before.
+-- The follower has come to the end of an accepted trace. Where the bytes are told, they are that
+-- trace within the limits, and nothing ends its check before.
 pub record HasFollowed (limits : Limits) (told : Option (List ℕ)) (f : Follower) : Type 0 where
   pub header : Header
   pub past : Trace

@@ -15,20 +15,26 @@ use Rattle.ace_verdict.specs.declared.verdict.Verdict.TheVariants.{Accepted, Ref
 -- no event breaks a rule, or names a line more than so many
 abbrev pub IsFine : ℕ → Header → List Event → Type 0
 IsFine lines header [] = ⊤
-IsFine lines header (e ∷ past) = IsFine lines header past × (least_broken header past e ≡ None) × (goes_over_within lines past e ≡ false)
+IsFine lines header (e ∷ past) =
+    IsFine lines header past × (least_broken header past e ≡ None)
+    × (goes_over_within lines past e ≡ false)
 
--- Of these bytes the header and the events of the past, which is kept newest first, were read and found fine by the most lines, and
--- these are left.
-pub record StandsAt (lines : ℕ) (told : Option (List ℕ)) (header : Header) (past : List Event) (left : Option (List ℕ)) : Type 0 where
+-- Of these bytes the header and the events of the past, which is kept newest first, were read and
+-- found fine by the most lines, and these are left.
+pub record StandsAt (lines : ℕ) (told : Option (List ℕ)) (header : Header)
+    (past : List Event) (left : Option (List ℕ)) : Type 0 where
   pub header_is_readable : IsReadableHeader header
   pub events_are_readable : AllByRecursion (IsReadable header.version) (reverse past)
   pub text : Consumes told left (trace_text header (reverse past))
   pub fine : IsFine lines header past
 
--- The verdict where an event ends the check: it breaks a rule, or breaks none and names a line too many. Want of memory may end it as well.
+-- The verdict where an event ends the check: it breaks a rule, or breaks none and names a line too
+-- many. Want of memory may end it as well.
 abbrev pub StopsAt : ℕ → Header → List Event → Event → Verdict → Type 0
-StopsAt lines header past event (Refused index rule) = (index ≡ length past + 1) × (least_broken header past event ≡ Some rule)
-StopsAt lines header past event LimitLines = (least_broken header past event ≡ None) × (goes_over_within lines past event ≡ true)
+StopsAt lines header past event (Refused index rule) =
+    (index ≡ length past + 1) × (least_broken header past event ≡ Some rule)
+StopsAt lines header past event LimitLines =
+    (least_broken header past event ≡ None) × (goes_over_within lines past event ≡ true)
 StopsAt lines header past event NoMemory = ⊤
 StopsAt lines header past event verdict = ⊥
 

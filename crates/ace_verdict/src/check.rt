@@ -129,21 +129,28 @@ fn follow_within<S: Source>(
     }
 }
 
-/// Follows the events of a trace to its end, unless a verdict comes before; what followed it to its end.
+/// Follows the events of a trace to its end, unless a verdict comes before; what followed it to its
+/// end.
 fn follow<S: Source>(mut follower: Follower, reader: &mut Reader<S>) -> Result<Follower, Verdict>
     requires reads_on { last_answer reader.old ≡ None }
     requires fresh { count_of reader.old ≡ 0 }
     ensures same_source { (source_of reader.new).ghost_name ≡ (source_of reader.old).ghost_name }
     ensures same_account { IfOk result (λ f. asked_of f ≡ asked_of follower) }
-    ensures accepted { (limits : Limits) (told : Option (List ℕ)) → IsReady limits follower reader.old
-        → StandsAt limits.lines told (header_of reader.old) [] (unread S.left reader.old) → IfOk result (HasFollowed limits told) }
-    ensures verdict { (limits : Limits) (told : Option (List ℕ)) → IsReady limits follower reader.old
+    ensures accepted { (limits : Limits) (told : Option (List ℕ))
+        → IsReady limits follower reader.old
+        → StandsAt limits.lines told (header_of reader.old) [] (unread S.left reader.old)
+        → IfOk result (HasFollowed limits told) }
+    ensures verdict { (limits : Limits) (told : Option (List ℕ))
+        → IsReady limits follower reader.old
         → StandsAt limits.lines told (header_of reader.old) [] (unread S.left reader.old)
         → IfErr result (λ verdict. IfSome told (λ bytes. IsVerdictWithin limits bytes verdict)) }
     ensures refusal { IfErr result IsRefusal }
-    ensures end { OnOk result (LeavesNothing (unread S.left reader.old) (S.left (source_of reader.new).now)) }
-    ensures steady { OnOk result (S.faults (source_of reader.new).now ≡ S.faults (source_of reader.old).now) }
-    ensures cause { IfErr result (HasReadCause (S.faults (source_of reader.old).now) (S.faults (source_of reader.new).now)) }
+    ensures end { OnOk result (LeavesNothing (unread S.left reader.old)
+        (S.left (source_of reader.new).now)) }
+    ensures steady { OnOk result (S.faults (source_of reader.new).now
+        ≡ S.faults (source_of reader.old).now) }
+    ensures cause { IfErr result (HasReadCause (S.faults (source_of reader.old).now)
+        (S.faults (source_of reader.new).now)) }
 {
     match check_events(&mut follower, reader) {
         Ok(()) => Ok(follower),
@@ -158,15 +165,21 @@ fn check_events<S: Source>(follower: &mut Follower, reader: &mut Reader<S>) -> R
     requires fresh { count_of reader.old ≡ 0 }
     ensures same_source { (source_of reader.new).ghost_name ≡ (source_of reader.old).ghost_name }
     ensures same_account { asked_of follower.new ≡ asked_of follower.old }
-    ensures accepted { (limits : Limits) (told : Option (List ℕ)) → IsReady limits follower.old reader.old
-        → StandsAt limits.lines told (header_of reader.old) [] (unread S.left reader.old) → OnOk result (HasFollowed limits told follower.new) }
-    ensures verdict { (limits : Limits) (told : Option (List ℕ)) → IsReady limits follower.old reader.old
+    ensures accepted { (limits : Limits) (told : Option (List ℕ))
+        → IsReady limits follower.old reader.old
+        → StandsAt limits.lines told (header_of reader.old) [] (unread S.left reader.old)
+        → OnOk result (HasFollowed limits told follower.new) }
+    ensures verdict { (limits : Limits) (told : Option (List ℕ))
+        → IsReady limits follower.old reader.old
         → StandsAt limits.lines told (header_of reader.old) [] (unread S.left reader.old)
         → IfErr result (λ verdict. IfSome told (λ bytes. IsVerdictWithin limits bytes verdict)) }
     ensures refusal { IfErr result IsRefusal }
-    ensures end { OnOk result (LeavesNothing (unread S.left reader.old) (S.left (source_of reader.new).now)) }
-    ensures steady { OnOk result (S.faults (source_of reader.new).now ≡ S.faults (source_of reader.old).now) }
-    ensures cause { IfErr result (HasReadCause (S.faults (source_of reader.old).now) (S.faults (source_of reader.new).now)) }
+    ensures end { OnOk result (LeavesNothing (unread S.left reader.old)
+        (S.left (source_of reader.new).now)) }
+    ensures steady { OnOk result (S.faults (source_of reader.new).now
+        ≡ S.faults (source_of reader.old).now) }
+    ensures cause { IfErr result (HasReadCause (S.faults (source_of reader.old).now)
+        (S.faults (source_of reader.new).now)) }
 {
     let mut event = NO_EVENT;
     'events: while reader.gives(&mut event) {
@@ -193,11 +206,14 @@ fn follow_at_once<S: Source>(follower: &mut Follower, reader: &mut Reader<S>)
     ensures few { count_of reader.new ≤ most_of reader.new }
     ensures front { TakesFront (unread S.left reader.old) (unread S.left reader.new) }
     ensures stop { IfSome follower.old.stop IsStop → IfSome follower.new.stop IsStop }
-    ensures comes { (limits : Limits) (start : Option (List ℕ)) → CanFollow (asked_of follower.old) limits
+    ensures comes { (limits : Limits) (start : Option (List ℕ))
+        → CanFollow (asked_of follower.old) limits
         → most_of reader.old ≡ limits.events
-        → HasComeTo limits follower.old.stop follower.old (count_of reader.old) (header_of reader.old)
+        → HasComeTo limits follower.old.stop follower.old (count_of reader.old)
+        (header_of reader.old)
         start (unread S.left reader.old)
-        → HasComeTo limits follower.new.stop follower.new (count_of reader.new) (header_of reader.old)
+        → HasComeTo limits follower.new.stop follower.new (count_of reader.new)
+        (header_of reader.old)
         start (unread S.left reader.new) }
 {
     reader.hands_all_over(follower);
@@ -207,7 +223,8 @@ fn follow_at_once<S: Source>(follower: &mut Follower, reader: &mut Reader<S>)
 #[cold]
 #[inline(never)]
 fn ending<S: Source>(reader: &mut Reader<S>, event: &mut Event) -> Result<(), Verdict>
-    requires kept { last_answer reader.old ≡ lasting (given false event.old (last_answer reader.old)) }
+    requires kept { last_answer reader.old
+        ≡ lasting (given false event.old (last_answer reader.old)) }
     ensures same { reader.new ≡ reader.old }
     ensures end { result ≡ ends_so (given false event.old (last_answer reader.old)) }
 {

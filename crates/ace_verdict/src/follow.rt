@@ -52,11 +52,16 @@ fn stop_of(fed: Result<Step, CheckErr>) -> Option<Verdict>
 /// Checks the next event. A verdict ends the check.
 #[inline(always)]
 fn feed(checker: &mut Checker, event: &Event) -> Option<Verdict>
-    ensures fine { (lines : ℕ) (h : Header) (past : Trace) → check.StandsWithin lines checker.old h past None
-        → IfNone result ((least_broken h past event.now ≡ None) × (goes_over_within lines past event.now ≡ false)) }
-    ensures stands { (lines : ℕ) (h : Header) (past : Trace) → check.StandsWithin lines checker.old h past None
-        → length past < 2 ^ 64 - 2 → IfNone result (check.StandsWithin lines checker.new h (event.now ∷ past) None) }
-    ensures stops { (lines : ℕ) (h : Header) (past : Trace) → check.StandsWithin lines checker.old h past None
+    ensures fine { (lines : ℕ) (h : Header) (past : Trace)
+        → check.StandsWithin lines checker.old h past None
+        → IfNone result ((least_broken h past event.now ≡ None)
+        × (goes_over_within lines past event.now ≡ false)) }
+    ensures stands { (lines : ℕ) (h : Header) (past : Trace)
+        → check.StandsWithin lines checker.old h past None
+        → length past < 2 ^ 64 - 2 → IfNone result
+        (check.StandsWithin lines checker.new h (event.now ∷ past) None) }
+    ensures stops { (lines : ℕ) (h : Header) (past : Trace)
+        → check.StandsWithin lines checker.old h past None
         → IfSome result (StopsAt lines h past event.now) }
     ensures stop { IfSome result IsStop }
 {
@@ -66,7 +71,8 @@ fn feed(checker: &mut Checker, event: &Event) -> Option<Verdict>
 /// Memory of the line, if there is one.
 #[inline(always)]
 fn memory_at(checker: &Checker, line: Option<u32>) -> Line
-    ensures { (lines : ℕ) (h : Header) (past : Trace) (b : Option Break) (l : ℕ) → check.StandsWithin lines checker.now h past b
+    ensures { (lines : ℕ) (h : Header) (past : Trace) (b : Option Break) (l : ℕ)
+        → check.StandsWithin lines checker.now h past b
         → line ≡ Some l → result ≡ memory_of past l }
 {
     match line {
@@ -78,11 +84,13 @@ fn memory_at(checker: &Checker, line: Option<u32>) -> Line
 /// Lets the next event be heard, if an account is asked for. The checker is that before it.
 #[inline(always)]
 fn hear(checker: &Checker, listener: &mut Option<Listener>, event: &Event) -> Result<(), NoMemory>
-    ensures heard { (lines : ℕ) (h : Header) (past : Trace) → check.StandsWithin lines checker.now h past None
+    ensures heard { (lines : ℕ) (h : Header) (past : Trace)
+        → check.StandsWithin lines checker.now h past None
         → IfSome listener.old (λ l. listening.Stands l h past) → IsAccepted h (event.now ∷ past)
         → length past < most_events
         → OnOk result (IfSome listener.new (λ l. listening.Stands l h (event.now ∷ past))) }
-    ensures same_account { option_map listening.account_of listener.new ≡ option_map listening.account_of listener.old }
+    ensures same_account { option_map listening.account_of listener.new
+        ≡ option_map listening.account_of listener.old }
 {
     match listener {
         Some(listener) => {
@@ -104,8 +112,8 @@ pub struct Follower {
 }
 
 impl Follower {
-    /// The follower of the empty trace under this header, which may name so many lines, or None where
-    /// there is no memory.
+    /// The follower of the empty trace under this header, which may name so many lines, or None
+    /// where there is no memory.
     pub fn new(
         alloc: Global,
         header: Header,
@@ -167,7 +175,8 @@ impl Follower {
 
     /// How many events were followed.
     pub fn count(&self) -> u64
-        ensures { (lines : ℕ) (h : Header) (past : Trace) → Follows lines self.now h past → result ≡ length past }
+        ensures { (lines : ℕ) (h : Header) (past : Trace) → Follows lines self.now h past
+            → result ≡ length past }
     {
         self.checker.count()
     }

@@ -6,8 +6,8 @@ ghost use Rattle.ace_verdict.specs.declared.verdict.Verdict.{Verdict};
 ghost use Rattle.ace_verdict.specs.declared.verdict.Verdict.TheVariants.{Accepted};
 ghost use Rattle.ace_verdict.specs.Verdict.{IsDueVerdict, IsVerdictWithin, ReadsSoundWithin};
 
-/// Within any limits one verdict is due to any bytes. Where it is that of an accepted trace, the trace has all that
-/// acceptance promises.
+/// Within any limits one verdict is due to any bytes. Where it is that of an accepted trace, the
+/// trace has all that acceptance promises.
 pub fn one_verdict_is_due()
     ensures some { (limits : Limits) (bytes : List ℕ)
         → (verdict : Verdict) × IsDueVerdict verdict × IsVerdictWithin limits bytes verdict }

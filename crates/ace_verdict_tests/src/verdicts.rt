@@ -21,7 +21,8 @@ const TWO_LINES: &str = "ACE 1\nPORTS L\n\
 const TWO_GRANTS: &str = "ACE 1\nPORTS AA\n\
     AR 0 0 00000040 7 1 0 0\nG 0 R 0\nAR 1 0 00000040 7 1 0 0\nG 1 R 0\n";
 
-/// The verdict on a text of which a source gives 64 bytes at once, and where it fails at the takes of the list.
+/// The verdict on a text of which a source gives 64 bytes at once, and where it fails at the takes
+/// of the list.
 fn verdict(alloc: Global, text: &str, fails: &[u32]) -> Result<Verdict, Fail> {
     let mut source = MemSource::new(alloc, text.as_bytes(), &[64], fails)?;
     let verdict = verdict_on(alloc, &mut source);

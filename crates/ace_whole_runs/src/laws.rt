@@ -23,9 +23,9 @@ pub fn each_right_plan_has_a_run()
     ensures { (plan : Plan) → IsRight plan → (past : Trace) × IsRunOf plan past }
 {}
 
-/// The same where for each line only the ports of a set are snooped, if at every point of an accepted
-/// trace the set has each port that holds the line: each right plan has a run whose steps snoop no
-/// other port.
+/// The same where for each line only the ports of a set are snooped, if at every point of an
+/// accepted trace the set has each port that holds the line: each right plan has a run whose steps
+/// snoop no other port.
 pub fn each_right_plan_has_a_run_among()
     ensures { (sets : SetsAt) (plan : Plan) → IsRight plan → HaveHolders sets plan
         → (past : Trace) × IsRunOf plan past × AreStepsAmong sets plan past }

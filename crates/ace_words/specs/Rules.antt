@@ -1,4 +1,5 @@
--- The titles of the rules, and where their clauses are kept: no text for a rule or clause that there isn't.
+-- The titles of the rules, and where their clauses are kept: no text for a rule or clause that
+-- there isn't.
 use Rattle.std.specs.Prelude.{ℕ, ◌==◌, if◌then◌else◌, List, [], codes}
 use Rattle.ace_clauses.specs.declared.letters.Letter.{Letter}
 use Rattle.ace_words.specs.AddressSentences.{k1_kept, k2_kept, k3_kept, k4_kept, k5_kept, k6_kept, k7_kept, k8_kept, k9_kept, k10_kept}

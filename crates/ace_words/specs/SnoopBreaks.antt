@@ -24,7 +24,8 @@ k13_broken C = codes "the granted transaction is not snooped so"
 k13_broken D = codes "the exclusive store failed: it snoops nobody"
 k13_broken E = codes "a snoop after the first transfer, or after memory was written"
 k13_broken F = codes "the port was snooped for this transaction before"
-k13_broken G = codes "the snoop overtakes the end of a write of the port: its B has come and its WK hasn't"
+k13_broken G =
+    codes "the snoop overtakes the end of a write of the port: its B has come and its WK hasn't"
 k13_broken _ = []
 
 abbrev pub k14_broken : Letter → List ℕ

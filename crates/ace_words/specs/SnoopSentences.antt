@@ -39,7 +39,8 @@ k15_kept D = codes "the bits of CRRESP fit the states before and after"
 k15_kept _ = []
 
 abbrev pub k16_kept : Letter → List ℕ
-k16_kept A = codes "a ReadUnique, CleanShared, CleanInvalid or MakeInvalid snoop waits for the update"
+k16_kept A =
+    codes "a ReadUnique, CleanShared, CleanInvalid or MakeInvalid snoop waits for the update"
 k16_kept B = codes "PassDirty is 0 while the update is outstanding"
 k16_kept C = codes "the port keeps the line while the update is outstanding"
 k16_kept _ = []

@@ -17,7 +17,8 @@ k24_broken I = codes "the update overtakes a dirty line that was passed to a tra
 abbrev pub k25_broken : Letter → List ℕ
 k25_broken A = codes "memory gets another line than the one that was passed"
 k25_broken B = codes "memory gets another line than the burst of the write"
-k25_broken C = codes "memory gets another line than the burst in the passed line, or else in what memory has"
+k25_broken C =
+    codes "memory gets another line than the burst in the passed line, or else in what memory has"
 k25_broken D = codes "memory gets another line than the burst in what memory has"
 k25_broken _ = []
 

@@ -5,7 +5,8 @@ use Rattle.ace_clauses.specs.declared.letters.Letter.TheVariants.{A, B, C, D, E,
 
 abbrev pub k24_kept : Letter → List ℕ
 k24_kept A = codes "the M names an outstanding transaction with data"
-k24_kept B = codes "a read for which memory is written was passed a dirty line, which memory has not got yet"
+k24_kept B =
+    codes "a read for which memory is written was passed a dirty line, which memory has not got yet"
 k24_kept C = codes "the passed line is whole"
 k24_kept D = codes "the read has had no transfer"
 k24_kept E = codes "the data of the write are whole"
@@ -17,7 +18,8 @@ k24_kept I = codes "an update waits while the granted transaction of its line ha
 abbrev pub k25_kept : Letter → List ℕ
 k25_kept A = codes "for a read memory gets the passed line"
 k25_kept B = codes "for an update or WriteLineUnique memory gets its burst"
-k25_kept C = codes "for a WriteUnique memory gets its burst in the passed line, or else in what memory has"
+k25_kept C =
+    codes "for a WriteUnique memory gets its burst in the passed line, or else in what memory has"
 k25_kept D = codes "for a WriteNoSnoop memory gets its burst in what memory has"
 k25_kept _ = []
 

@@ -4,7 +4,8 @@ ghost use Rattle.ace_words.specs.AddressSentences.{k1_kept, k2_kept, k3_kept, k4
 
 use ace_clauses::Letter;
 
-/// Where the clauses of rule 1 are kept: the port has this record. Empty where there is no such clause.
+/// Where the clauses of rule 1 are kept: the port has this record. Empty where there is no such
+/// clause.
 pub fn k1_kept(letter: Letter) -> &'static [u8]
     ensures { result.now ≡ k1_kept letter }
 {
@@ -15,7 +16,8 @@ pub fn k1_kept(letter: Letter) -> &'static [u8]
     }
 }
 
-/// Where the clauses of rule 2 are kept: the codes mean something. Empty where there is no such clause.
+/// Where the clauses of rule 2 are kept: the codes mean something. Empty where there is no such
+/// clause.
 pub fn k2_kept(letter: Letter) -> &'static [u8]
     ensures { result.now ≡ k2_kept letter }
 {
@@ -28,7 +30,8 @@ pub fn k2_kept(letter: Letter) -> &'static [u8]
     }
 }
 
-/// Where the clauses of rule 3 are kept: the address is that of a line. Empty where there is no such clause.
+/// Where the clauses of rule 3 are kept: the address is that of a line. Empty where there is no
+/// such clause.
 pub fn k3_kept(letter: Letter) -> &'static [u8]
     ensures { result.now ≡ k3_kept letter }
 {
@@ -42,7 +45,8 @@ pub fn k3_kept(letter: Letter) -> &'static [u8]
     }
 }
 
-/// Where the clauses of rule 4 are kept: an identifier is free. Empty where there is no such clause.
+/// Where the clauses of rule 4 are kept: an identifier is free. Empty where there is no such
+/// clause.
 pub fn k4_kept(letter: Letter) -> &'static [u8]
     ensures { result.now ≡ k4_kept letter }
 {
@@ -52,7 +56,8 @@ pub fn k4_kept(letter: Letter) -> &'static [u8]
     }
 }
 
-/// Where the clauses of rule 5 are kept: one transaction of a port on a line. Empty where there is no such clause.
+/// Where the clauses of rule 5 are kept: one transaction of a port on a line. Empty where there is
+/// no such clause.
 pub fn k5_kept(letter: Letter) -> &'static [u8]
     ensures { result.now ≡ k5_kept letter }
 {
@@ -62,7 +67,8 @@ pub fn k5_kept(letter: Letter) -> &'static [u8]
     }
 }
 
-/// Where the clauses of rule 6 are kept: it starts from a start state. Empty where there is no such clause.
+/// Where the clauses of rule 6 are kept: it starts from a start state. Empty where there is no such
+/// clause.
 pub fn k6_kept(letter: Letter) -> &'static [u8]
     ensures { result.now ≡ k6_kept letter }
 {
@@ -72,7 +78,8 @@ pub fn k6_kept(letter: Letter) -> &'static [u8]
     }
 }
 
-/// Where the clauses of rule 7 are kept: what may be exclusive. Empty where there is no such clause.
+/// Where the clauses of rule 7 are kept: what may be exclusive. Empty where there is no such
+/// clause.
 pub fn k7_kept(letter: Letter) -> &'static [u8]
     ensures { result.now ≡ k7_kept letter }
 {
@@ -83,7 +90,8 @@ pub fn k7_kept(letter: Letter) -> &'static [u8]
     }
 }
 
-/// Where the clauses of rule 8 are kept: a line is shareable or not. Empty where there is no such clause.
+/// Where the clauses of rule 8 are kept: a line is shareable or not. Empty where there is no such
+/// clause.
 pub fn k8_kept(letter: Letter) -> &'static [u8]
     ensures { result.now ≡ k8_kept letter }
 {
@@ -93,7 +101,8 @@ pub fn k8_kept(letter: Letter) -> &'static [u8]
     }
 }
 
-/// Where the clauses of rule 9 are kept: barriers and messages are well formed. Empty where there is no such clause.
+/// Where the clauses of rule 9 are kept: barriers and messages are well formed. Empty where there
+/// is no such clause.
 pub fn k9_kept(letter: Letter) -> &'static [u8]
     ensures { result.now ≡ k9_kept letter }
 {
@@ -110,7 +119,8 @@ pub fn k9_kept(letter: Letter) -> &'static [u8]
     }
 }
 
-/// Where the clauses of rule 10 are kept: updates and streaming writes keep apart. Empty where there is no such clause.
+/// Where the clauses of rule 10 are kept: updates and streaming writes keep apart. Empty where
+/// there is no such clause.
 pub fn k10_kept(letter: Letter) -> &'static [u8]
     ensures { result.now ≡ k10_kept letter }
 {

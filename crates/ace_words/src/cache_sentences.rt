@@ -4,7 +4,8 @@ ghost use Rattle.ace_words.specs.CacheSentences.{k29_kept, k30_kept, k31_kept, k
 
 use ace_clauses::Letter;
 
-/// Where the clauses of rule 29 are kept: a silent transition is one. Empty where there is no such clause.
+/// Where the clauses of rule 29 are kept: a silent transition is one. Empty where there is no such
+/// clause.
 pub fn k29_kept(letter: Letter) -> &'static [u8]
     ensures { result.now ≡ k29_kept letter }
 {
@@ -25,7 +26,8 @@ pub fn k30_kept(letter: Letter) -> &'static [u8]
     }
 }
 
-/// Where the clauses of rule 31 are kept: a load gives what is there. Empty where there is no such clause.
+/// Where the clauses of rule 31 are kept: a load gives what is there. Empty where there is no such
+/// clause.
 pub fn k31_kept(letter: Letter) -> &'static [u8]
     ensures { result.now ≡ k31_kept letter }
 {
@@ -35,7 +37,8 @@ pub fn k31_kept(letter: Letter) -> &'static [u8]
     }
 }
 
-/// Where the clauses of rule 32 are kept: a store has the line alone. Empty where there is no such clause.
+/// Where the clauses of rule 32 are kept: a store has the line alone. Empty where there is no such
+/// clause.
 pub fn k32_kept(letter: Letter) -> &'static [u8]
     ensures { result.now ≡ k32_kept letter }
 {
@@ -49,7 +52,8 @@ pub fn k32_kept(letter: Letter) -> &'static [u8]
     }
 }
 
-/// Where the clauses of rule 33 are kept: an exclusive store has a monitor. Empty where there is no such clause.
+/// Where the clauses of rule 33 are kept: an exclusive store has a monitor. Empty where there is no
+/// such clause.
 pub fn k33_kept(letter: Letter) -> &'static [u8]
     ensures { result.now ≡ k33_kept letter }
 {

@@ -4,7 +4,8 @@ ghost use Rattle.ace_words.specs.OrderSentences.{k34_kept, k35_kept, k36_kept, k
 
 use ace_clauses::Letter;
 
-/// Where the clauses of rule 34 are kept: a barrier is answered in time. Empty where there is no such clause.
+/// Where the clauses of rule 34 are kept: a barrier is answered in time. Empty where there is no
+/// such clause.
 pub fn k34_kept(letter: Letter) -> &'static [u8]
     ensures { result.now ≡ k34_kept letter }
 {
@@ -16,7 +17,8 @@ pub fn k34_kept(letter: Letter) -> &'static [u8]
     }
 }
 
-/// Where the clauses of rule 35 are kept: a barrier holds back. Empty where there is no such clause.
+/// Where the clauses of rule 35 are kept: a barrier holds back. Empty where there is no such
+/// clause.
 pub fn k35_kept(letter: Letter) -> &'static [u8]
     ensures { result.now ≡ k35_kept letter }
 {
@@ -26,7 +28,8 @@ pub fn k35_kept(letter: Letter) -> &'static [u8]
     }
 }
 
-/// Where the clauses of rule 36 are kept: messages arrive in order. Empty where there is no such clause.
+/// Where the clauses of rule 36 are kept: messages arrive in order. Empty where there is no such
+/// clause.
 pub fn k36_kept(letter: Letter) -> &'static [u8]
     ensures { result.now ≡ k36_kept letter }
 {
@@ -38,7 +41,8 @@ pub fn k36_kept(letter: Letter) -> &'static [u8]
     }
 }
 
-/// Where the clauses of rule 37 are kept: a message is answered by all. Empty where there is no such clause.
+/// Where the clauses of rule 37 are kept: a message is answered by all. Empty where there is no
+/// such clause.
 pub fn k37_kept(letter: Letter) -> &'static [u8]
     ensures { result.now ≡ k37_kept letter }
 {
@@ -49,7 +53,8 @@ pub fn k37_kept(letter: Letter) -> &'static [u8]
     }
 }
 
-/// Where the clauses of rule 38 are kept: a completion has a Sync. Empty where there is no such clause.
+/// Where the clauses of rule 38 are kept: a completion has a Sync. Empty where there is no such
+/// clause.
 pub fn k38_kept(letter: Letter) -> &'static [u8]
     ensures { result.now ≡ k38_kept letter }
 {
@@ -59,7 +64,8 @@ pub fn k38_kept(letter: Letter) -> &'static [u8]
     }
 }
 
-/// Where the clauses of rule 39 are kept: a Sync is completed by all. Empty where there is no such clause.
+/// Where the clauses of rule 39 are kept: a Sync is completed by all. Empty where there is no such
+/// clause.
 pub fn k39_kept(letter: Letter) -> &'static [u8]
     ensures { result.now ≡ k39_kept letter }
 {
@@ -73,7 +79,8 @@ pub fn k39_kept(letter: Letter) -> &'static [u8]
     }
 }
 
-/// Where the clauses of rule 40 are kept: operations retire in order. Empty where there is no such clause.
+/// Where the clauses of rule 40 are kept: operations retire in order. Empty where there is no such
+/// clause.
 pub fn k40_kept(letter: Letter) -> &'static [u8]
     ensures { result.now ≡ k40_kept letter }
 {

@@ -22,7 +22,8 @@ pub fn k18_kept(letter: Letter) -> &'static [u8]
     }
 }
 
-/// Where the clauses of rule 19 are kept: PassDirty and IsShared are right. Empty where there is no such clause.
+/// Where the clauses of rule 19 are kept: PassDirty and IsShared are right. Empty where there is no
+/// such clause.
 pub fn k19_kept(letter: Letter) -> &'static [u8]
     ensures { result.now ≡ k19_kept letter }
 {
@@ -37,7 +38,8 @@ pub fn k19_kept(letter: Letter) -> &'static [u8]
     }
 }
 
-/// Where the clauses of rule 20 are kept: the data are those of the reply. Empty where there is no such clause.
+/// Where the clauses of rule 20 are kept: the data are those of the reply. Empty where there is no
+/// such clause.
 pub fn k20_kept(letter: Letter) -> &'static [u8]
     ensures { result.now ≡ k20_kept letter }
 {
@@ -49,7 +51,8 @@ pub fn k20_kept(letter: Letter) -> &'static [u8]
     }
 }
 
-/// Where the clauses of rule 21 are kept: EXOKAY where it is true. Empty where there is no such clause.
+/// Where the clauses of rule 21 are kept: EXOKAY where it is true. Empty where there is no such
+/// clause.
 pub fn k21_kept(letter: Letter) -> &'static [u8]
     ensures { result.now ≡ k21_kept letter }
 {
@@ -61,7 +64,8 @@ pub fn k21_kept(letter: Letter) -> &'static [u8]
     }
 }
 
-/// Where the clauses of rule 22 are kept: a read acknowledge has a read. Empty where there is no such clause.
+/// Where the clauses of rule 22 are kept: a read acknowledge has a read. Empty where there is no
+/// such clause.
 pub fn k22_kept(letter: Letter) -> &'static [u8]
     ensures { result.now ≡ k22_kept letter }
 {
@@ -71,7 +75,8 @@ pub fn k22_kept(letter: Letter) -> &'static [u8]
     }
 }
 
-/// Where the clauses of rule 23 are kept: a read ends in an end state. Empty where there is no such clause.
+/// Where the clauses of rule 23 are kept: a read ends in an end state. Empty where there is no such
+/// clause.
 pub fn k23_kept(letter: Letter) -> &'static [u8]
     ensures { result.now ≡ k23_kept letter }
 {

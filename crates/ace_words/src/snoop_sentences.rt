@@ -4,7 +4,8 @@ ghost use Rattle.ace_words.specs.SnoopSentences.{k11_kept, k12_kept, k13_kept, k
 
 use ace_clauses::Letter;
 
-/// Where the clauses of rule 11 are kept: write data have a write. Empty where there is no such clause.
+/// Where the clauses of rule 11 are kept: write data have a write. Empty where there is no such
+/// clause.
 pub fn k11_kept(letter: Letter) -> &'static [u8]
     ensures { result.now ≡ k11_kept letter }
 {
@@ -17,7 +18,8 @@ pub fn k11_kept(letter: Letter) -> &'static [u8]
     }
 }
 
-/// Where the clauses of rule 12 are kept: one grant for a line. Empty where there is no such clause.
+/// Where the clauses of rule 12 are kept: one grant for a line. Empty where there is no such
+/// clause.
 pub fn k12_kept(letter: Letter) -> &'static [u8]
     ensures { result.now ≡ k12_kept letter }
 {
@@ -30,7 +32,8 @@ pub fn k12_kept(letter: Letter) -> &'static [u8]
     }
 }
 
-/// Where the clauses of rule 13 are kept: a snoop has a reason. Empty where there is no such clause.
+/// Where the clauses of rule 13 are kept: a snoop has a reason. Empty where there is no such
+/// clause.
 pub fn k13_kept(letter: Letter) -> &'static [u8]
     ensures { result.now ≡ k13_kept letter }
 {
@@ -46,7 +49,8 @@ pub fn k13_kept(letter: Letter) -> &'static [u8]
     }
 }
 
-/// Where the clauses of rule 14 are kept: an answer has a snoop. Empty where there is no such clause.
+/// Where the clauses of rule 14 are kept: an answer has a snoop. Empty where there is no such
+/// clause.
 pub fn k14_kept(letter: Letter) -> &'static [u8]
     ensures { result.now ≡ k14_kept letter }
 {
@@ -56,7 +60,8 @@ pub fn k14_kept(letter: Letter) -> &'static [u8]
     }
 }
 
-/// Where the clauses of rule 15 are kept: an answer fits the state. Empty where there is no such clause.
+/// Where the clauses of rule 15 are kept: an answer fits the state. Empty where there is no such
+/// clause.
 pub fn k15_kept(letter: Letter) -> &'static [u8]
     ensures { result.now ≡ k15_kept letter }
 {
@@ -69,7 +74,8 @@ pub fn k15_kept(letter: Letter) -> &'static [u8]
     }
 }
 
-/// Where the clauses of rule 16 are kept: an answer respects an update. Empty where there is no such clause.
+/// Where the clauses of rule 16 are kept: an answer respects an update. Empty where there is no
+/// such clause.
 pub fn k16_kept(letter: Letter) -> &'static [u8]
     ensures { result.now ≡ k16_kept letter }
 {
@@ -82,7 +88,8 @@ pub fn k16_kept(letter: Letter) -> &'static [u8]
     }
 }
 
-/// Where the clauses of rule 17 are kept: snoop data are those of the answer. Empty where there is no such clause.
+/// Where the clauses of rule 17 are kept: snoop data are those of the answer. Empty where there is
+/// no such clause.
 pub fn k17_kept(letter: Letter) -> &'static [u8]
     ensures { result.now ≡ k17_kept letter }
 {

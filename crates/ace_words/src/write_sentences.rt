@@ -4,7 +4,8 @@ ghost use Rattle.ace_words.specs.WriteSentences.{k24_kept, k25_kept, k26_kept, k
 
 use ace_clauses::Letter;
 
-/// Where the clauses of rule 24 are kept: memory is written for something. Empty where there is no such clause.
+/// Where the clauses of rule 24 are kept: memory is written for something. Empty where there is no
+/// such clause.
 pub fn k24_kept(letter: Letter) -> &'static [u8]
     ensures { result.now ≡ k24_kept letter }
 {
@@ -22,7 +23,8 @@ pub fn k24_kept(letter: Letter) -> &'static [u8]
     }
 }
 
-/// Where the clauses of rule 25 are kept: memory gets the right line. Empty where there is no such clause.
+/// Where the clauses of rule 25 are kept: memory gets the right line. Empty where there is no such
+/// clause.
 pub fn k25_kept(letter: Letter) -> &'static [u8]
     ensures { result.now ≡ k25_kept letter }
 {
@@ -36,7 +38,8 @@ pub fn k25_kept(letter: Letter) -> &'static [u8]
     }
 }
 
-/// Where the clauses of rule 26 are kept: a response has a write. Empty where there is no such clause.
+/// Where the clauses of rule 26 are kept: a response has a write. Empty where there is no such
+/// clause.
 pub fn k26_kept(letter: Letter) -> &'static [u8]
     ensures { result.now ≡ k26_kept letter }
 {
@@ -48,7 +51,8 @@ pub fn k26_kept(letter: Letter) -> &'static [u8]
     }
 }
 
-/// Where the clauses of rule 27 are kept: a write acknowledge has a write. Empty where there is no such clause.
+/// Where the clauses of rule 27 are kept: a write acknowledge has a write. Empty where there is no
+/// such clause.
 pub fn k27_kept(letter: Letter) -> &'static [u8]
     ensures { result.now ≡ k27_kept letter }
 {
@@ -58,7 +62,8 @@ pub fn k27_kept(letter: Letter) -> &'static [u8]
     }
 }
 
-/// Where the clauses of rule 28 are kept: a write ends in an end state. Empty where there is no such clause.
+/// Where the clauses of rule 28 are kept: a write ends in an end state. Empty where there is no
+/// such clause.
 pub fn k28_kept(letter: Letter) -> &'static [u8]
     ensures { result.now ≡ k28_kept letter }
 {

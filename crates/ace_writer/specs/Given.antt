@@ -28,9 +28,10 @@ given_of writer = writer.given
 abbrev pub counted : ℕ → ℕ
 counted bytes = min bytes (2 ^ 64 - 1)
 
--- A front of the text was given, to a sink that before held these bytes, and `given` is its length. Until a write
--- fault the rest of the text is in hand.
-pub record GivesFront {K : Type 0} (held : K → Option (List ℕ)) (before : Option (List ℕ)) (text : List ℕ)
+-- A front of the text was given, to a sink that before held these bytes, and `given` is its length.
+-- Until a write fault the rest of the text is in hand.
+pub record GivesFront {K : Type 0} (held : K → Option (List ℕ))
+    (before : Option (List ℕ)) (text : List ℕ)
     (writer : Writer K) : Type 0 where
   pub front : List ℕ
   pub rest : List ℕ

@@ -35,7 +35,8 @@ impl TextBuf {
     pub fn push_ports(&mut self, header: &Header)
         requires header { IsHeader header.now }
         requires room { length self.old + 39 ≤ 4096 }
-        ensures value { self.new ≡ self.old ++ line_text (codes "PORTS " ++ port_letters header.now) }
+        ensures value { self.new ≡ self.old ++ line_text (codes "PORTS "
+            ++ port_letters header.now) }
         ensures len { length self.new ≤ length self.old + 39 }
     {
         self.append(b"PORTS ");

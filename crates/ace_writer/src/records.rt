@@ -94,7 +94,8 @@ impl TextBuf {
     )
         requires range { InRange version (Ar port id addr snoop dom bar lock) }
         requires room { length self.old + 161 ≤ 4096 }
-        ensures value { self.new ≡ self.old ++ event_text version (Ar port id addr snoop dom bar lock) }
+        ensures value { self.new ≡ self.old
+            ++ event_text version (Ar port id addr snoop dom bar lock) }
         ensures len { length self.new ≤ length self.old + 161 }
     {
         self.append(b"AR");

@@ -140,7 +140,8 @@ fn traces_cut_short(rt: HostRuntime) -> Result<(), Fail> {
     Ok(())
 }
 
-/// Whether the commands have this status and leave these texts over the front and what stands behind it.
+/// Whether the commands have this status and leave these texts over the front and what stands
+/// behind it.
 fn all_answer<R: Threads + Wait + Sync>(
     rt: &R,
     alloc: Global,

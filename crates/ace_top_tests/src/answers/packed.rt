@@ -119,7 +119,8 @@ fn in_any_pieces<R: Threads + Wait + Sync>(
     Ok(true)
 }
 
-/// Whether a standard output of each room below that of the bytes gets a front of them, and the notes are told.
+/// Whether a standard output of each room below that of the bytes gets a front of them, and the
+/// notes are told.
 fn breaks_off<R: Threads + Wait + Sync>(
     rt: &R,
     alloc: Global,

@@ -42,7 +42,8 @@ const MANY: &str = "ACE SCRIPT 1\nPORTS AAAL\nCACHE 2\nPOLICY mixed 000000000000
     3 wlu 00004000 77777777777777777777777777777777777777777777777777777777777777777777777777777777777777777777777777777777777777777777777777777777\n\
     3 sb\n3 ro 00002040\n1 ld 00004000 0\n0 mb\n";
 
-/// The words of the two kinds of run: any port is snooped for a line, or only those that a snoop filter has for it.
+/// The words of the two kinds of run: any port is snooped for a line, or only those that a snoop
+/// filter has for it.
 const RUN: &[&str] = &["run"];
 
 const RUN_FILTER: &[&str] = &["run", "filter"];
@@ -124,7 +125,8 @@ fn are_told<R: Threads + Wait + Sync>(
     )
 }
 
-/// Whether a run of the script by these words writes such a trace, of which such a verdict and report are told.
+/// Whether a run of the script by these words writes such a trace, of which such a verdict and
+/// report are told.
 fn is_row_of<R: Threads + Wait + Sync>(
     rt: &R,
     alloc: Global,
