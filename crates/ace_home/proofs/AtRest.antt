@@ -148,7 +148,7 @@ module _ (h : Header) (past : Trace) (e : Event) (a : IsAccepted h (e ∷ past))
   -- the grant of a line stays unless a transaction may end
   stays-granted : (l : ℕ) (y : Transaction) → (line ≡ Some l → may_end h e ≡ false) → granted h past l ≡ Some y → granted h (e ∷ past) l ≡ Some y
   stays-granted l y lasts is = elim (line-or-not line l) [
-    | inr off ↦ let g = grants l in same-granted h past e l g.0 g.1 (still l off g.0 g.1) ∙ is
+    | inr off ↦ let g = grants l in same-granted h past e l g.0 g.1 ((still l off).grant g.0 g.1) ∙ is
     | inl here ↦ elim (granted_after h past e a l y is) [
       | inl s ↦ s.is
       | inr z ↦ let none = none-ends h past e (lasts here) in let bad : None ≡ Some z.0 = sym none ∙ z.1 in cc

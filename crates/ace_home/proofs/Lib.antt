@@ -22,6 +22,8 @@ pub mod Hearing
 pub mod Kept
 -- The next transfer of a read.
 pub mod Transfers
+-- What a port has to acknowledge, and what it holds.
+pub mod Ending
 -- Lines whose granted transactions are held up.
 pub mod HeldUp
 -- Sets of ports.

@@ -171,6 +171,10 @@ module _ (among : PortSets) (plan : Plan) (past : Trace) (x : Transaction) (k : 
     ];
   }
 
+  -- an engine that stands for the trace with them may be in the place of another
+  pub snoops-looked : (s later : Home) (n : ℕ) (burst : List Event) → AreSnoops among s plan past x k n burst → HomeStands later plan (onto burst past) → AreSnoops among later plan past x k n burst
+  snoops-looked s later n burst b stands = record { stands = stands; kept = b.kept; all = b.all; few = b.few; none = b.none }
+
   pub snoops-with : (s later : Home) (n : ℕ) (burst : List Event) → snoop_of x ≡ Some k → AreSnoops among s plan past x k n burst → among x.addr n ≡ true
       → is_kept plan.header (onto burst past) (ac n) ≡ true → HomeStands later plan (ac n ∷ onto burst past) → AreSnoops among later plan past x k (n + 1) (burst ++ ac n ∷ [])
   snoops-with s later n burst caused b own kept stands =

@@ -12,7 +12,8 @@ pub legal : (s : Home) (plan : Plan) (past : Trace) → HomeStands s plan past �
 legal s plan past stands = stands.legal
 
 -- it doesn't look at the operations of the plan
-pub grows : (s : Home) (plan : Plan) (past : Trace) (o : PlanOp) → HomeStands s plan past → IsRight (longer plan o)
+pub grows : (s : Home) (plan : Plan) (past : Trace) (o : PlanOp)
+    → HomeStands s plan past → IsRight (longer plan o)
     → is_their_operation OfLines (λ _. true) o ≡ false → HomeStands s (longer plan o) past
 grows s plan past o stands right other = record {
   legal = legal-longer plan past o stands.legal right;

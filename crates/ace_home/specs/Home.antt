@@ -33,8 +33,8 @@ abbrev pub AreResting : Header → Trace → PortSet → Type 0
 AreResting h past s =
     (p : ℕ) → has_port s p ≡ true → (x : Transaction) → IsOf h past p x → HasToWait h past x
 
--- It keeps what the rules ask of the trace, the header, and who may name each line, and ports that it
--- takes to be at rest are.
+-- It keeps what the rules ask of the trace, the header, and who may name each line, and ports that
+-- it takes to be at rest are.
 pub record HomeStands (s : Home) (plan : Plan) (past : Trace) : Type 0 where
   pub legal : IsLegal plan past
   pub shares : SharesStand s.shares plan.header past
@@ -46,7 +46,8 @@ pub record HomeStands (s : Home) (plan : Plan) (past : Trace) : Type 0 where
 abbrev pub IsListed : Header → Trace → ℕ → Channel → Transaction → Type 0
 IsListed h past p c x = (k : ℕ) × (slice_get (pending_of h past p c) k ≡ Some x)
 
--- The engine stands for the trace, and this tells how far an outstanding transaction of the port has come.
+-- The engine stands for the trace, and this tells how far an outstanding transaction of the port
+-- has come.
 pub record Tells (s : Home) (plan : Plan) (past : Trace) (p : ℕ) (x : Progress) : Type 0 where
   pub stands : HomeStands s plan past
   pub pending : IsOf plan.header past p x.transaction

@@ -1,4 +1,5 @@
--- The steps for one transaction, what the engine keeps of a trace, and what the trait of engines asks of it.
+-- The steps for one transaction, what the engine keeps of a trace, and what the trait of engines
+-- asks of it.
 pub mod Among
 pub mod EngineLaws
 pub mod HeldUp

@@ -37,17 +37,17 @@ pub record GoesLater (h : Header) (past : Trace) (x : Transaction) : Type 0 wher
   pub waits : has_grant past x.port x.chan x.id ≡ false
   pub later : is_first_to_wait h past x ≡ false
 
--- It was granted its line, which is held up, and hasn't begun; it is no exclusive store that failed,
--- which begins all the same.
+-- It was granted its line, which is held up, and hasn't begun; it is no exclusive store that
+-- failed, which begins all the same.
 pub record IsUnbegun (h : Header) (past : Trace) (x : Transaction) : Type 0 where
   pub had : has_grant past x.port x.chan x.id ≡ true
   pub held : IsHeldUp h past x.addr
   pub first : x.chan ≡ Read → transfers past x.port x.id ≡ 0
   pub unfailed : has_failed past x ≡ false
 
--- The home can do nothing for the outstanding transaction: it isn't of a kind that takes a grant, or
--- it waits for the line, which is granted to another one or goes to an older one first, or it waits
--- for answers to snoops.
+-- The home can do nothing for the outstanding transaction: it isn't of a kind that takes a grant,
+-- or it waits for the line, which is granted to another one or goes to an older one first, or it
+-- waits for answers to snoops.
 abbrev pub HasToWait : Header → Trace → Transaction → Type 0
 HasToWait h past x =
     (takes_grant x ≡ false) ⊎ (IsKeptOff h past x ⊎ (GoesLater h past x ⊎ IsUnbegun h past x))

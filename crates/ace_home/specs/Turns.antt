@@ -25,8 +25,8 @@ abbrev pub lesser_steps : ℕ → List ℕ
 lesser_steps n = filter (λ m. nat_lt m n) (numbers_of OfLines)
 
 -- The burst is a step for a transaction of the port, which snoops only ports of the sets: no such
--- step of the home with a lesser number is enabled for the port, this step may be taken for no older
--- transaction of it, and snoops leave no port of the set that may be snooped.
+-- step of the home with a lesser number is enabled for the port, this step may be taken for no
+-- older transaction of it, and snoops leave no port of the set that may be snooped.
 pub record IsLeastStepAmong (among : PortSets) (plan : Plan) (past : Trace) (p : ℕ)
     (burst : List Event) : Type 0 where
   pub number : ℕ

@@ -79,7 +79,8 @@ fn is_stuck(dirty: bool, takes: bool) -> bool
 
 /// The next transfer of the read is its last.
 fn is_last(x: &Progress) -> bool
-    ensures { result ≡ is_some_and (read_kind x.now.transaction) (λ k. x.now.transfers + 1 == beats_of k) }
+    ensures { result ≡ is_some_and (read_kind x.now.transaction)
+        (λ k. x.now.transfers + 1 == beats_of k) }
 {
     match read_kind(&x.transaction) {
         None => false,
@@ -89,7 +90,8 @@ fn is_last(x: &Progress) -> bool
 
 /// The word of the next transfer of the read, of which this is the reply.
 fn next_word(x: &Progress, reply: &Line) -> u128
-    ensures { result ≡ (if is_line_read_transaction x.now.transaction then word_of reply.now x.now.transfers else 0) }
+    ensures { result ≡ (if is_line_read_transaction x.now.transaction
+        then word_of reply.now x.now.transfers else 0) }
 {
     if !is_line_read_transaction(&x.transaction) {
         return 0;
@@ -102,8 +104,10 @@ fn next_word(x: &Progress, reply: &Line) -> u128
 
 /// The next R of the read, with this response, of which this is the reply.
 fn transfer_of(x: &Progress, resp: u8, reply: &Line) -> Event
-    ensures { result ≡ R x.now.transaction.port x.now.transaction.id resp (is_some_and (read_kind x.now.transaction) (λ k. x.now.transfers + 1 == beats_of k))
-        (if is_line_read_transaction x.now.transaction then word_of reply.now x.now.transfers else 0) }
+    ensures { result ≡ R x.now.transaction.port x.now.transaction.id resp
+        (is_some_and (read_kind x.now.transaction) (λ k. x.now.transfers + 1 == beats_of k))
+        (if is_line_read_transaction x.now.transaction then word_of reply.now x.now.transfers
+        else 0) }
 {
     Event::R {
         port: x.transaction.port,
@@ -129,7 +133,8 @@ pub fn is_held_up(lines: &LineCheck, place: Option<usize>, x: &Progress) -> bool
 impl Home {
     /// The event, where it breaks no rule.
     fn kept(&self, event: Event) -> Option<Event>
-        ensures { (plan : Plan) (past : Trace) → HomeStands self.now plan past → result ≡ if_kept plan.header past event }
+        ensures { (plan : Plan) (past : Trace) → HomeStands self.now plan past
+            → result ≡ if_kept plan.header past event }
     {
         if self.shares.keeps(&event) {
             Some(event)
@@ -141,7 +146,8 @@ impl Home {
     /// The G of a transaction that waits for its line.
     pub(crate) fn grant(&self, x: &Progress) -> Option<Event>
         ensures { (plan : Plan) (past : Trace) (p : ℕ) → Tells self.now plan past p x.now
-            → result ≡ first_kept plan.header past (grant_burst plan.header past x.now.transaction) }
+            → result ≡ first_kept plan.header past
+            (grant_burst plan.header past x.now.transaction) }
     {
         let grant = grant_of(&x.transaction);
         if !self.shares.keeps(&grant) {
@@ -219,7 +225,8 @@ impl Home {
     fn passed(&self, place: Option<usize>, x: &Progress) -> Option<Event>
         ensures { (plan : Plan) (past : Trace) (p : ℕ) → IsServed self.now plan past p place x.now
             → x.now.transaction.chan ≡ Reads
-            → result ≡ first_kept plan.header past (passed_burst plan.header past x.now.transaction) }
+            → result ≡ first_kept plan.header past
+            (passed_burst plan.header past x.now.transaction) }
     {
         let lines = self.shares.lines();
         if lines.can_take_passed_data(place, &x.transaction) {
@@ -235,7 +242,8 @@ impl Home {
     fn transfer(&self, place: Option<usize>, x: &Progress) -> Option<Event>
         ensures { (plan : Plan) (past : Trace) (p : ℕ) → IsServed self.now plan past p place x.now
             → x.now.transaction.chan ≡ Reads
-            → result ≡ first_kept plan.header past (transfer_burst plan.header past x.now.transaction) }
+            → result ≡ first_kept plan.header past
+            (transfer_burst plan.header past x.now.transaction) }
     {
         let read = &x.transaction;
         let lines = self.shares.lines();
@@ -270,7 +278,8 @@ impl Home {
 
     /// The burst of a write that has written no memory yet, where it is whole.
     fn burst(&self, write: &Transaction) -> Option<WriteData>
-        ensures { (plan : Plan) (past : Trace) (p : ℕ) → HomeStands self.now plan past → IsOf plan.header past p write.now
+        ensures { (plan : Plan) (past : Trace) (p : ℕ) → HomeStands self.now plan past
+            → IsOf plan.header past p write.now
             → result ≡ data_of_write past write.now }
     {
         let ports = self.shares.ports();
@@ -281,7 +290,8 @@ impl Home {
     pub(crate) fn write(&self, place: Option<usize>, x: &Progress) -> Option<Event>
         ensures { (plan : Plan) (past : Trace) (p : ℕ) → IsServed self.now plan past p place x.now
             → x.now.transaction.chan ≡ Writes
-            → result ≡ first_kept plan.header past (write_burst plan.header past x.now.transaction) }
+            → result ≡ first_kept plan.header past
+            (write_burst plan.header past x.now.transaction) }
     {
         let write = &x.transaction;
         let lines = self.shares.lines();

@@ -31,8 +31,8 @@ use ace_model::{AllPorts, Among, PlanView, Transaction};
 use ace_portck::Progress;
 use std::alloc::Global;
 
-/// The engine that serves lines. It asks of the first event of each burst whether it breaks a rule, and gives the burst where it breaks
-/// none.
+/// The engine that serves lines. It asks of the first event of each burst whether it breaks a rule,
+/// and gives the burst where it breaks none.
 #[derive(Drop)]
 pub struct Home {
     pub(crate) shares: Shares,
@@ -44,7 +44,8 @@ pub struct Home {
 }
 
 impl Home {
-    /// The engine for a plan and the empty trace. It takes all the memory that it will need, whatever the length of the plan is.
+    /// The engine for a plan and the empty trace. It takes all the memory that it will need,
+    /// whatever the length of the plan is.
     ///
     /// # Errors
     ///
@@ -68,7 +69,8 @@ impl Home {
 
     /// What memory has of the line; a line that was never written has zeros.
     pub fn memory(&self, line: u32) -> Line
-        ensures { (plan : Plan) (past : Trace) → HomeStands self.now plan past → result ≡ memory_of past line }
+        ensures { (plan : Plan) (past : Trace) → HomeStands self.now plan past
+            → result ≡ memory_of past line }
     {
         self.shares.lines().memory(line)
     }
@@ -147,7 +149,8 @@ impl Home {
     /// The first step for the outstanding transactions of the port.
     fn next<F: Among>(&self, port: u8, among: &F) -> Option<Due>
         ensures { (plan : Plan) (past : Trace) → HomeStands self.now plan past
-            → IsFirstOf (F.has among.now) plan.header past port (IsOf plan.header past port) result }
+            → IsFirstOf (F.has among.now) plan.header past port
+            (IsOf plan.header past port) result }
     {
         let mut first = None;
         self.put_due(port, Channel::Read, among, &mut first);
@@ -157,7 +160,8 @@ impl Home {
 
     /// Hears the next event of the trace.
     pub fn note(&mut self, event: &Event)
-        ensures { (plan : Plan) (past : Trace) → HomeStands self.old plan past → IsLegal plan (event.now ∷ past)
+        ensures { (plan : Plan) (past : Trace) → HomeStands self.old plan past
+            → IsLegal plan (event.now ∷ past)
             → HomeStands self.new plan (event.now ∷ past) }
     {
         let line = moved_line(event, self.shares.ports());
@@ -170,7 +174,8 @@ impl Home {
 
     /// Hears the event, and puts it in the burst, if that isn't full.
     fn put(&mut self, event: Event, out: &mut Burst)
-        ensures stands { (plan : Plan) (past : Trace) → HomeStands self.old plan past → IsLegal plan (event ∷ past) → HomeStands self.new plan (event ∷ past) }
+        ensures stands { (plan : Plan) (past : Trace) → HomeStands self.old plan past
+            → IsLegal plan (event ∷ past) → HomeStands self.new plan (event ∷ past) }
         ensures burst { length out.old < 16 → out.new ≡ out.old ++ event ∷ [] }
     {
         self.note(&event);
@@ -195,6 +200,7 @@ impl Home {
                 self.put(snoop_for(x, kind, port), out);
             }
         }
+        self.look_at_unsnooped(Some(x.addr));
     }
 
     /// Puts the burst of the step.
@@ -237,7 +243,8 @@ impl LineEngine for Home {
             × (port < plan.header.ports) × HasHolders (F.has among.now) plan.header past }
         requires out { out.old ≡ [] }
         ensures step { IsTrue result → (plan : Plan) (past : Trace) → HomeStands self.old plan past
-            → is_step_by_among (F.has among.now) (numbers_of OfLines) plan past port out.new ≡ true }
+            → is_step_by_among (F.has among.now) (numbers_of OfLines) plan past port out.new
+            ≡ true }
         ensures stands { IsTrue result → (plan : Plan) (past : Trace)
             → HomeStands self.old plan past → HomeStands self.new plan (onto out.new past) }
         ensures none { result ≡ false → (plan : Plan) (past : Trace) → HomeStands self.old plan past

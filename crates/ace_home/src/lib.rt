@@ -1,5 +1,5 @@
-//! The engine of the interconnect that serves lines: it grants each line to one transaction at a time, snoops for it, answers it, and
-//! writes to memory what it leaves.
+//! The engine of the interconnect that serves lines: it grants each line to one transaction at a
+//! time, snoops for it, answers it, and writes to memory what it leaves.
 #![tactic(auto)]
 
 mod candidates;

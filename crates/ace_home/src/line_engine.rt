@@ -12,9 +12,10 @@ use ace_model::Among;
 
 /// An engine that serves lines.
 pub trait LineEngine: Engine {
-    /// Puts a step of the port in `out`, which is empty. For each line it snoops only ports of a set
-    /// that has each ACE port whose state of the line isn't I. Where none of its steps is enabled for
-    /// the port, its snoops read over the set, it answers false, and nothing has changed.
+    /// Puts a step of the port in `out`, which is empty. For each line it snoops only ports of a
+    /// set that has each ACE port whose state of the line isn't I. Where none of its steps is
+    /// enabled for the port, its snoops read over the set, it answers false, and nothing has
+    /// changed.
     fn turn_among<F: Among>(&mut self, port: u8, among: &F, out: &mut Burst) -> bool
         requires stands { (plan : Plan) × (past : Trace) × Self.stands self.old plan past
             × (port < plan.header.ports) × HasHolders (F.has among.now) plan.header past }

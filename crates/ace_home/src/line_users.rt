@@ -8,8 +8,8 @@ use crate::port_set::PortSet;
 /// How many sets of ports are kept.
 const SETS: usize = 1024;
 
-/// Beside each line a set of ports, which has each port with an outstanding transaction of the line.
-/// Lines of one number share a set.
+/// Beside each line a set of ports, which has each port with an outstanding transaction of the
+/// line. Lines of one number share a set.
 #[derive(Drop)]
 pub struct LineUsers {
     sets: [PortSet; SETS],

@@ -34,8 +34,8 @@ fn snooped_address(snoop: Option<Snoop>) -> Option<u32>
     }
 }
 
-/// The line of which something may change under its grant with the event. The ports are those
-/// before it.
+/// The line of which something may change with the event, under its grant, in what its ports hold,
+/// or in what they have to acknowledge. The ports are those before the event.
 pub fn moved_line(event: &Event, ports: &PortCheck) -> Option<u32>
     ensures { (h : Headers) (past : Trace) (l : ℕ) → IsAccepted h (event.now ∷ past)
         → PortsTell ports.now (record { header = h; past = past })
@@ -43,6 +43,7 @@ pub fn moved_line(event: &Event, ports: &PortCheck) -> Option<u32>
 {
     match *event {
         Event::Ac { addr, .. } => Some(addr),
+        Event::S { addr, .. } => Some(addr),
         Event::Cr { port, .. } => snooped_address(ports.answered(port).copied()),
         Event::Cd { port, .. } => snooped_address(ports.sending(port)),
         Event::R { port, id, .. } => address_of(ports.outstanding(port, Channel::Read, id)),

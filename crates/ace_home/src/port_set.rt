@@ -4,6 +4,8 @@ ghost use Rattle.std.specs.Prelude.{◌≡◌, ◌<◌, ◌&&◌, ◌||◌, ◌=
 ghost use Rattle.std.specs.Int.{bit_at};
 ghost use Rattle.ace_home.specs.Resting.{has_port};
 
+use ace_event::Header;
+
 /// Ports below 32, of which bit p says whether port p is one.
 #[derive(Clone, Copy)]
 pub struct PortSet {
@@ -40,6 +42,12 @@ impl PortSet {
         PortSet { bits: 0xffff }
     }
 
+    /// The ACE ports of the header.
+    #[inline(always)]
+    pub fn ace(header: &Header) -> PortSet {
+        PortSet { bits: header.ace }
+    }
+
     /// The port is one of them.
     #[inline(always)]
     pub fn has(self, port: u8) -> bool
@@ -59,7 +67,8 @@ impl PortSet {
     pub fn add(&mut self, port: u8)
         ensures more { (p : ℕ) → has_port self.old p ≡ true → has_port self.new p ≡ true }
         ensures own { port < 32 → has_port self.new port ≡ true }
-        ensures less { (p : ℕ) → has_port self.new p ≡ true → (port == p) ≡ false → has_port self.old p ≡ true }
+        ensures less { (p : ℕ) → has_port self.new p ≡ true → (port == p) ≡ false
+            → has_port self.old p ≡ true }
     {
         if port < 32 {
             self.bits = with_bit(self.bits, port);

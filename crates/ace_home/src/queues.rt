@@ -31,7 +31,8 @@ impl Home {
     /// The outstanding transactions of the port on the channel, in the order of issue.
     pub(crate) fn queue(&self, port: u8, chan: Channel) -> &[Progress]
         ensures { (plan : Plan) (past : Trace) → HomeStands self.now plan past
-            → result.now ≡ map (progress_of plan.header past) (pending_of plan.header past port chan) }
+            → result.now ≡ map (progress_of plan.header past)
+            (pending_of plan.header past port chan) }
     {
         match chan {
             Channel::Read => self.shares.ports().reads(port),
@@ -41,7 +42,8 @@ impl Home {
 
     /// It may be granted the line of the other one, and is older.
     fn goes_before(&self, y: &Transaction, x: &Transaction) -> bool
-        ensures { (plan : Plan) (past : Trace) → HomeStands self.now plan past → result ≡ goes_before plan.header past y.now x.now }
+        ensures { (plan : Plan) (past : Trace) → HomeStands self.now plan past
+            → result ≡ goes_before plan.header past y.now x.now }
     {
         if !is_on(y, x.addr) {
             return false;
@@ -55,9 +57,12 @@ impl Home {
     /// An outstanding transaction of the port on the channel goes before it.
     fn has_older(&self, port: u8, chan: Channel, x: &Transaction) -> bool
         ensures found { result ≡ true → (plan : Plan) (past : Trace) → HomeStands self.now plan past
-            → (y : Issued) × IsOf plan.header past port y × (goes_before plan.header past y x.now ≡ true) }
-        ensures none { result ≡ false → (plan : Plan) (past : Trace) (k : ℕ) (y : Issued) → HomeStands self.now plan past
-            → slice_get (pending_of plan.header past port chan) k ≡ Some y → goes_before plan.header past y x.now ≡ false }
+            → (y : Issued) × IsOf plan.header past port y
+            × (goes_before plan.header past y x.now ≡ true) }
+        ensures none { result ≡ false → (plan : Plan) (past : Trace) (k : ℕ) (y : Issued)
+            → HomeStands self.now plan past
+            → slice_get (pending_of plan.header past port chan) k ≡ Some y
+            → goes_before plan.header past y x.now ≡ false }
     {
         let queue = self.queue(port, chan);
         for i in 0..queue.len() {
@@ -91,7 +96,8 @@ impl Home {
     /// No older transaction waits for the line, which isn't granted, but for those that barriers
     /// hold.
     pub(crate) fn is_first_to_wait(&self, x: &Transaction) -> bool
-        ensures { (plan : Plan) (past : Trace) → HomeStands self.now plan past → granted plan.header past x.now.addr ≡ None
+        ensures { (plan : Plan) (past : Trace) → HomeStands self.now plan past
+            → granted plan.header past x.now.addr ≡ None
             → result ≡ is_first_to_wait plan.header past x.now }
     {
         for port in 0..self.header.ports {

@@ -296,7 +296,7 @@ impl Home {
 
     /// The same of the port of the transaction that is granted on the line, where it is held up.
     #[inline(always)]
-    fn look_at_holder(&mut self, line: Option<u32>)
+    pub(crate) fn look_at_holder(&mut self, line: Option<u32>)
         ensures { (plan : Plan) (past : Trace) → HomeStands self.old plan past
             → HomeStands self.new plan past }
     {
@@ -311,9 +311,71 @@ impl Home {
         }
     }
 
+    /// The same where each port was snooped for it.
+    #[inline(always)]
+    fn look_at_snooped(&mut self, line: u32)
+        ensures { (plan : Plan) (past : Trace) → HomeStands self.old plan past
+            → HomeStands self.new plan past }
+    {
+        let lines = self.shares.lines();
+        let place = lines.place(Some(line));
+        if lines.has_unsnooped(place) || !self.awaits_answer(place) {
+            return;
+        }
+        if let Some(port) = self.holder(line) {
+            self.look(port);
+        }
+    }
+
+    /// The same where some port wasn't snooped for it. Such a look is for the end of a burst of
+    /// snoops, and not for each of them.
+    #[inline(always)]
+    pub(crate) fn look_at_unsnooped(&mut self, line: Option<u32>)
+        ensures { (plan : Plan) (past : Trace) → HomeStands self.old plan past
+            → HomeStands self.new plan past }
+    {
+        let lines = self.shares.lines();
+        if lines.has_unsnooped(lines.place(line)) {
+            self.look_at_holder(line);
+        }
+    }
+
+    /// The same of the port of a transaction that was granted the line, where each other ACE port
+    /// may have a write of it with B and without WK.
+    #[inline(always)]
+    fn look_at_granted(&mut self, port: u8, line: Option<u32>)
+        ensures { (plan : Plan) (past : Trace) → HomeStands self.old plan past
+            → HomeStands self.new plan past }
+    {
+        let Some(line) = line else {
+            return;
+        };
+        let mut others = PortSet::ace(&self.header).apart(self.users.of(line));
+        others.remove(port);
+        if others.is_empty() {
+            self.look_at_holder(Some(line));
+        }
+    }
+
+    /// The same of ports that may be at rest after the response of a write of the port: of the
+    /// holder of its line, which may have to wait for the acknowledge, or, where there is none, of
+    /// those of which something may move as the write has ended.
+    #[inline(always)]
+    fn look_at_response(&mut self, port: u8, line: Option<u32>)
+        ensures { (plan : Plan) (past : Trace) → HomeStands self.old plan past
+            → HomeStands self.new plan past }
+    {
+        if is_ace(&self.header, port) {
+            self.look_at_unsnooped(line);
+        } else {
+            self.look_at_end(port, line);
+        }
+    }
+
     /// The same of ports that may be at rest after the event: of one of which a transaction has
     /// begun or ended, of those that wait for a line that was granted or is free, and of one whose
-    /// transaction has had its last snoop, or has written what it can't take.
+    /// transaction was granted or has had its last snoop, may not snoop a port any more, or has
+    /// written what it can't take.
     #[inline(always)]
     pub(crate) fn look_after(&mut self, event: &Event, line: Option<u32>)
         ensures { (plan : Plan) (past : Trace) → HomeStands self.old plan past
@@ -322,17 +384,20 @@ impl Home {
         match *event {
             Event::Ar { port, .. } | Event::Aw { port, .. } => self.look(port),
             Event::Rk { port, .. } | Event::Wk { port, .. } => self.look_at_end(port, line),
-            Event::B { port, .. }
-            | Event::R {
+            Event::R {
                 port,
                 last: true,
                 ..
             } => if !is_ace(&self.header, port) {
                 self.look_at_end(port, line);
             },
-            Event::G { port, .. } => self.look_beside(port, line),
-            Event::Ac { .. }
-            | Event::M {
+            Event::B { port, .. } => self.look_at_response(port, line),
+            Event::G { port, .. } => {
+                self.look_beside(port, line);
+                self.look_at_granted(port, line);
+            }
+            Event::Ac { addr, .. } => self.look_at_snooped(addr),
+            Event::M {
                 chan: Channel::Read,
                 ..
             } => self.look_at_holder(line),

@@ -15,7 +15,7 @@ use Rattle.ace_runs.proofs.SoFar.{each-computed}
 use Rattle.ace_engine.specs.Engines.{IsLegal}
 use Rattle.ace_home_tests.specs.Worked.{cleaning_plan, fetched_events, filled_events, granted_events, passed_events, reading_events, reading_plan, shared_events, sharing_plan, writing_plan, written_events}
 
-two-ports : IsHeader (record { version = 1; ports = 2; ace = 3 })
+pub two-ports : IsHeader (record { version = 1; ports = 2; ace = 3 })
 two-ports = record { version = inl refl; some_port = omega arith; most_ports = omega arith; most_ace = omega arith; most_lite = omega arith; no_other = omega arith }
 
 pub reading-right : IsRight reading_plan

@@ -1,2 +1,3 @@
 -- Worked traces.
+pub mod Acknowledge
 pub mod Worked

@@ -35,19 +35,20 @@ use ace_model::{Op, PlanOp, PlanView, PolicyWord};
 use std::alloc::Global;
 use std::test::Fail;
 
-const HEADER: Header = Header {
+pub const HEADER: Header = Header {
     version: 1,
     ports: 2,
     ace: 3,
 };
 
-const STORED: Line = Line {
+pub const STORED: Line = Line {
     words: [5, 6, 7, 8],
 };
 
 /// The engine hears the events, its own among them.
-fn hear_all(home: &mut Home, events: &[Event])
-    ensures { (plan : Plan) (past : Trace) → HomeStands home.old plan past → IsLegal plan (onto events.now past)
+pub fn hear_all(home: &mut Home, events: &[Event])
+    ensures { (plan : Plan) (past : Trace) → HomeStands home.old plan past
+        → IsLegal plan (onto events.now past)
         → HomeStands home.new plan (onto events.now past) }
 {
     for event in events {
@@ -55,7 +56,7 @@ fn hear_all(home: &mut Home, events: &[Event])
     }
 }
 
-fn ar(port: u8, snoop: u8) -> Event
+pub fn ar(port: u8, snoop: u8) -> Event
     ensures { result ≡ Ar port 0 64 snoop 1 0 false }
 {
     Event::Ar {
@@ -82,13 +83,13 @@ fn aw(snoop: u8) -> Event
     }
 }
 
-fn g(port: u8, chan: Channel) -> Event
+pub fn g(port: u8, chan: Channel) -> Event
     ensures { result ≡ G port chan 0 }
 {
     Event::G { port, chan, id: 0 }
 }
 
-fn r(port: u8, resp: u8, last: bool) -> Event
+pub fn r(port: u8, resp: u8, last: bool) -> Event
     ensures { result ≡ R port 0 resp last 0 }
 {
     Event::R {
@@ -100,13 +101,13 @@ fn r(port: u8, resp: u8, last: bool) -> Event
     }
 }
 
-fn rk(st: LineState) -> Event
+pub fn rk(st: LineState) -> Event
     ensures { result ≡ Rk 1 st }
 {
     Event::Rk { port: 1, st }
 }
 
-fn ac(port: u8, snoop: u8) -> Event
+pub fn ac(port: u8, snoop: u8) -> Event
     ensures { result ≡ Ac port 64 snoop }
 {
     Event::Ac {
@@ -116,7 +117,7 @@ fn ac(port: u8, snoop: u8) -> Event
     }
 }
 
-fn cr(port: u8, resp: u8, st: LineState) -> Event
+pub fn cr(port: u8, resp: u8, st: LineState) -> Event
     ensures { result ≡ Cr port resp st }
 {
     Event::Cr { port, resp, st }
@@ -143,7 +144,7 @@ fn w(last: bool, word: u128) -> Event
     }
 }
 
-fn stores() -> Event
+pub fn stores() -> Event
     ensures { result ≡ D 1 64 full_line false stored }
 {
     Event::D {
@@ -176,7 +177,8 @@ fn plan_of_one(alloc: Global, op: Op) -> Result<PlanView, Fail>
 
 /// The plan of an operation of port 1, and one of port 0.
 fn plan_of_two(alloc: Global, first: Op, second: Op) -> Result<PlanView, Fail>
-    ensures { IfOk result (λ v. v.plan ≡ plan_of (record { port = 1; op = first } ∷ record { port = 0; op = second } ∷ [])) }
+    ensures { IfOk result (λ v. v.plan ≡ plan_of (record { port = 1; op = first }
+        ∷ record { port = 0; op = second } ∷ [])) }
 {
     let mut view = PlanView::with_room(alloc, HEADER, 1, PolicyWord::Mixed(0), 2)?;
     view.push(PlanOp { port: 1, op: first });
@@ -221,7 +223,8 @@ fn granted(alloc: Global) -> Result<Home, Fail>
 
 /// The engine after a port has asked for a line that the other one keeps shared.
 fn shared(alloc: Global) -> Result<Home, Fail>
-    ensures { IfOk result (λ s. HomeStands s sharing_plan (onto shared_events (onto fetched_events []))) }
+    ensures { IfOk result (λ s. HomeStands s sharing_plan
+        (onto shared_events (onto fetched_events []))) }
 {
     let kind = ArKind::ReadShared;
     let plan = plan_of_two(alloc, Op::Pf { addr: 64, kind }, Op::Pf { addr: 64, kind })?;
@@ -245,7 +248,8 @@ fn shared(alloc: Global) -> Result<Home, Fail>
 
 /// The engine after a port has passed on what it stored, for a CleanInvalid.
 fn passed(alloc: Global) -> Result<Home, Fail>
-    ensures { IfOk result (λ s. HomeStands s cleaning_plan (onto passed_events (onto filled_events []))) }
+    ensures { IfOk result (λ s. HomeStands s cleaning_plan
+        (onto passed_events (onto filled_events []))) }
 {
     let fill = Op::Fill {
         addr: 64,
@@ -303,7 +307,7 @@ fn written(alloc: Global) -> Result<Home, Fail>
 }
 
 /// The burst has just these events.
-fn has_events(burst: &Burst, events: &[Event]) -> bool {
+pub fn has_events(burst: &Burst, events: &[Event]) -> bool {
     if usize::from(burst.len()) != events.len() {
         return false;
     }

@@ -1,6 +1,6 @@
 -- The R of a part of a DVM message, or of a DVM Complete, that may have it is a step 12, and the trace with it is one for which an engine may
 -- stand. Where no outstanding read of the port is such a one, there is no such step.
-use Rattle.std.proofs.Common.{◌≡◌, ℕ, Bool, true, false, ◌&&◌, ◌||◌, ◌==◌, if◌then◌else◌, [], ◌∷◌, Some, is_none, slice_get, refl, sym, ap, subst, ◌∙◌, inl, inr}
+use Rattle.std.proofs.Common.{◌≡◌, ℕ, Bool, true, false, ◌&&◌, ◌==◌, if◌then◌else◌, [], ◌∷◌, Some, is_none, slice_get, refl, sym, ap, subst, ◌∙◌, inl, inr}
 use Rattle.std.proofs.lemmas.Bool.{and_from, cases_Bool, eq-eqb, false_from_ne_true, or_cases}
 use Rattle.ace_codes.specs.declared.kind.ArKind.{ArKind}
 use Rattle.ace_codes.specs.declared.kind.ArKind.TheVariants as read
@@ -31,13 +31,10 @@ use Rattle.ace_engine.specs.Engines.{IsLegal}
 use Rattle.ace_engine.proofs.OfInterconnect.{legal-with}
 use Rattle.ace_engine.proofs.Pending.{IsPending, serves-none as none-served}
 use Rattle.ace_portck.specs.Pending.{pending_of}
+use Rattle.ace_order.specs.Quiet.{is_dvm}
 use Rattle.ace_order.proofs.FourSteps.{answers-message}
 use Rattle.ace_order.proofs.PlainReads.{IsPlain, kept-undone, named-out, plain-decides}
 use Rattle.ace_order.proofs.Together.{CompletesNone, other-response}
-
--- a part of a DVM message, or a DVM Complete
-abbrev pub is_dvm : Transaction → Bool
-is_dvm x = is_message_part x || is_dvm_completion x
 
 message-plain : (k : ArKind) → is_dvm_message k ≡ true → is_line_read k ≡ false
 message-plain read.DvmMessage e = refl

@@ -8,6 +8,8 @@ pub mod Together
 pub mod BothAnswered
 -- A barrier that has to wait has to until an event belongs to a transaction of its port.
 pub mod Waits
+-- A port of which no DVM transaction is outstanding.
+pub mod WithoutDvm
 -- The R and the B of a barrier pair that may have them are a step.
 pub mod BarrierSteps
 -- What stays with an event that is none of the engine's own.

@@ -31,7 +31,7 @@ use Rattle.ace_order.specs.Messages.{parts_of}
 use Rattle.ace_order.proofs.NextMessages.{Gets, parts-next}
 
 -- an element that passes both tests
-found-in : (f g : Transaction → Bool) (xs : List Transaction) (k : ℕ) (x : Transaction) → slice_get xs k ≡ Some x → f x ≡ true → g x ≡ true
+pub found-in : (f g : Transaction → Bool) (xs : List Transaction) (k : ℕ) (x : Transaction) → slice_get xs k ≡ Some x → f x ≡ true → g x ≡ true
     → list_any g (filter f xs) ≡ true
 found-in f g [] k x at passes is = cc
 found-in f g (y ∷ xs) zero x at passes is =

@@ -12,7 +12,8 @@ pub legal : (s : Order) (plan : Plan) (past : Trace) → OrderStands s plan past
 legal s plan past stands = stands.current.legal
 
 -- it doesn't look at the operations of the plan
-pub grows : (s : Order) (plan : Plan) (past : Trace) (o : PlanOp) → OrderStands s plan past → IsRight (longer plan o)
+pub grows : (s : Order) (plan : Plan) (past : Trace) (o : PlanOp)
+    → OrderStands s plan past → IsRight (longer plan o)
     → is_their_operation OfOrder (λ _. true) o ≡ false → OrderStands s (longer plan o) past
 grows s plan past o stands right other = record {
   current = record {
@@ -23,6 +24,7 @@ grows s plan past o stands right other = record {
     system = stands.current.system;
     lines = stands.current.lines;
     waiting = stands.current.waiting;
+    quiet = stands.current.quiet;
   };
   answered = stands.answered;
   forwarded = stands.forwarded;

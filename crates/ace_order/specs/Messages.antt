@@ -15,7 +15,9 @@ use Rattle.ace_sysck.specs.Inboxes.{next_message}
 
 -- What was forwarded to the port are whole messages: all that was for it at some earlier point.
 abbrev pub IsForwardedWhole : Trace → ℕ → Type 0
-IsForwardedWhole past q = (later : List Event) × (before : Trace) × (later ++ before ≡ past) × (parts_among (forwarded past q) ≡ parts_for before q)
+IsForwardedWhole past q =
+    (later : List Event) × (before : Trace) × (later ++ before ≡ past)
+    × (parts_among (forwarded past q) ≡ parts_for before q)
 
 -- the parts of a message
 abbrev pub parts_of : Message → List Transaction

@@ -18,11 +18,13 @@ use Rattle.ace_portck.specs.Stands as portck
 use Rattle.ace_sysck.specs.declared.inboxes.Message.{Message}
 use Rattle.ace_sysck.specs.Stands as sysck
 use Rattle.ace_order.specs.Messages.{IsForwardedWhole, next_for}
+use Rattle.ace_order.specs.Quiet.{has_dvm, is_quiet}
 use Rattle.ace_order.specs.Waiting.{HasToWait, is_waiting}
 use Rattle.ace_order.specs.declared.order.Order.{Order}
 
--- It keeps what there is of each port and of the system, and has room for all snoops and lines of a plan. Each barrier that it takes to wait
--- has to.
+-- It keeps what there is of each port and of the system, and has room for all snoops and lines of a
+-- plan. Each barrier that it takes to wait has to, and no DVM transaction is outstanding of a port
+-- of which it takes none to be.
 pub record IsCurrent (s : Order) (plan : Plan) (past : Trace) : Type 0 where
   pub legal : IsLegal plan past
   pub header : s.header ≡ plan.header
@@ -31,10 +33,13 @@ pub record IsCurrent (s : Order) (plan : Plan) (past : Trace) : Type 0 where
   pub system : sysck.Stands s.system (record { header = plan.header; past = past })
   pub lines : sysck.IsRoomy most_lines past s.system
   pub waiting : (p : ℕ) → is_waiting s.waiting p ≡ true → HasToWait past p
+  pub quiet : (p : ℕ) → is_quiet s.quiet p ≡ true → has_dvm plan.header past p ≡ false
 
 -- The halves of a barrier pair are answered together.
 abbrev pub AreAnsweredTogether : Trace → Type 0
-AreAnsweredTogether past = (p k : ℕ) (b : Pair) → slice_get (pairs past p) k ≡ Some b → is_completed past b.read ≡ is_completed past b.write
+AreAnsweredTogether past =
+    (p k : ℕ) (b : Pair) → slice_get (pairs past p) k ≡ Some b
+    → is_completed past b.read ≡ is_completed past b.write
 
 pub record OrderStands (s : Order) (plan : Plan) (past : Trace) : Type 0 where
   pub current : IsCurrent s plan past
@@ -60,6 +65,7 @@ pub record IsRespondable (h : Header) (past : Trace) (p : ℕ) (x : Transaction)
   pub begins : may_begin h past (dvm_burst h past x) ≡ true
 
 -- The burst is one of the steps 10 to 13 of the port, and the engine stands for the trace with it.
-pub record IsTurn (s : Order) (plan : Plan) (past : Trace) (p : ℕ) (burst : List Event) : Type 0 where
+pub record IsTurn (s : Order) (plan : Plan) (past : Trace) (p : ℕ)
+    (burst : List Event) : Type 0 where
   pub step : is_step_by (10 ∷ 11 ∷ 12 ∷ 13 ∷ []) plan past p burst ≡ true
   pub stands : OrderStands s plan (onto burst past)

@@ -14,7 +14,8 @@ pub record HasToWait (past : Trace) (p : ℕ) : Type 0 where
   pub undone : is_pair_complete past pair ≡ false
   pub held : may_answer past p pair ≡ false
 
--- The event belongs to a transaction of the port: it may complete it, or be its order point. No other ends a wait.
+-- The event belongs to a transaction of the port: it may complete it, or be its order point. No
+-- other ends a wait.
 abbrev pub may_end_wait : Event → ℕ → Bool
 may_end_wait (R q i resp last word) p = q == p
 may_end_wait (B q i resp) p = q == p

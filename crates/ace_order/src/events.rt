@@ -1,11 +1,12 @@
 //! What the engine puts.
 
-ghost use Rattle.std.specs.Prelude.{◌≡◌, ◌||◌, ◌∷◌, []};
+ghost use Rattle.std.specs.Prelude.{◌≡◌, ◌∷◌, []};
 ghost use Rattle.std.specs.List.{list_any};
 ghost use Rattle.ace_event.specs.declared.event.Event.TheVariants.{B};
-ghost use Rattle.ace_model.specs.Messages.{is_dvm_completion, is_message_part};
+ghost use Rattle.ace_model.specs.Messages.{is_message_part};
 ghost use Rattle.ace_runs.specs.OrderSteps.{plain_transfer, sync_completion};
 ghost use Rattle.ace_order.specs.Messages.{forwarding};
+ghost use Rattle.ace_order.specs.Quiet.{is_dvm};
 
 use ace_codes::{ArKind, SnoopKind, ac_code};
 use ace_event::Event;
@@ -15,7 +16,7 @@ use ace_portck::Progress;
 
 /// A part of a DVM message, or a DVM Complete.
 pub fn is_dvm(read: &Transaction) -> bool
-    ensures { result ≡ (is_message_part read.now || is_dvm_completion read.now) }
+    ensures { result ≡ is_dvm read.now }
 {
     matches!(
         read_kind(read),
@@ -35,6 +36,13 @@ pub fn has_message_part(reads: &[Progress]) -> bool
     ensures { result ≡ list_any (λ x. is_message_part x.transaction) reads.now }
 {
     reads.iter().any(|x| is_message_part(&x.transaction))
+}
+
+/// One of the reads is a part of a DVM message, or a DVM Complete.
+pub fn has_dvm(reads: &[Progress]) -> bool
+    ensures { result ≡ list_any (λ x. is_dvm x.transaction) reads.now }
+{
+    reads.iter().any(|x| is_dvm(&x.transaction))
 }
 
 /// The one transfer of a read without a line.

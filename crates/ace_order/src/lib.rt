@@ -3,6 +3,7 @@
 
 mod events;
 mod order;
+mod quiet;
 mod waiting;
 
 pub use order::Order;

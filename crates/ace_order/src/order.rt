@@ -25,6 +25,7 @@ use crate::events::{
     forwarding, has_message_part, is_dvm, is_message_part, plain_transfer, response,
     sync_completion,
 };
+use crate::quiet::QuietPorts;
 use crate::waiting::Waiting;
 use ace_codes::SnoopKind;
 use ace_engine::{Burst, Engine};
@@ -36,20 +37,24 @@ use ace_portck::{PortCheck, Progress};
 use ace_sysck::{Message, OpenPair, SysCheck};
 use std::alloc::Global;
 
-/// The engine of barriers and DVM. It answers both halves of a barrier at once, when what is before the barrier has come far enough; it
-/// forwards each DVM message as a whole, to all ports for which it is the next; it responds to a part of a message once every port has
-/// answered it, and to a DVM Complete; and it completes a Sync once every port has sent its DVM Complete. A barrier that was found to have to
-/// wait isn't asked for again before an event comes that may end the wait.
+/// The engine of barriers and DVM. It answers both halves of a barrier at once, when what is before
+/// the barrier has come far enough; it forwards each DVM message as a whole, to all ports for which
+/// it is the next; it responds to a part of a message once every port has answered it, and to a DVM
+/// Complete; and it completes a Sync once every port has sent its DVM Complete. A barrier that was
+/// found to have to wait isn't asked for again before an event comes that may end the wait, and a
+/// port isn't asked for its messages as long as no DVM transaction of it is outstanding.
 #[derive(Drop)]
 pub struct Order {
     header: Header,
     ports: PortCheck,
     system: SysCheck,
     waiting: Waiting,
+    quiet: QuietPorts,
 }
 
 impl Order {
-    /// The engine for a plan and the empty trace. It takes all the memory that it will need, whatever the length of the plan is.
+    /// The engine for a plan and the empty trace. It takes all the memory that it will need,
+    /// whatever the length of the plan is.
     ///
     /// # Errors
     ///
@@ -70,21 +75,25 @@ impl Order {
             ports,
             system,
             waiting: Waiting::none(),
+            quiet: QuietPorts::all(),
         })
     }
 
     /// Hears the next event of the trace.
     fn note(&mut self, event: &Event)
-        ensures { (plan : Plan) (past : Trace) → IsCurrent self.old plan past → IsLegal plan (event.now ∷ past) → IsCurrent self.new plan (event.now ∷ past) }
+        ensures { (plan : Plan) (past : Trace) → IsCurrent self.old plan past
+            → IsLegal plan (event.now ∷ past) → IsCurrent self.new plan (event.now ∷ past) }
     {
         self.system.hear(&self.ports, event);
         self.ports.hear(event);
         self.waiting.hear(event, &self.ports, &self.system);
+        self.quiet.hear(event, &self.ports);
     }
 
     /// Hears the event, and puts it in the burst, if that isn't full.
     fn put(&mut self, event: Event, out: &mut Burst)
-        ensures current { (plan : Plan) (past : Trace) → IsCurrent self.old plan past → IsLegal plan (event ∷ past) → IsCurrent self.new plan (event ∷ past) }
+        ensures current { (plan : Plan) (past : Trace) → IsCurrent self.old plan past
+            → IsLegal plan (event ∷ past) → IsCurrent self.new plan (event ∷ past) }
         ensures burst { length out.old < 16 → out.new ≡ out.old ++ event ∷ [] }
     {
         self.note(&event);
@@ -123,9 +132,11 @@ impl Order {
 
     /// The barrier pair of the port that may have its R and B.
     fn answerable(&self, port: u8) -> Option<OpenPair>
-        ensures some { (b : OpenPair) → result ≡ Some b → (plan : Plan) (past : Trace) → OrderStands self.now plan past
+        ensures some { (b : OpenPair) → result ≡ Some b → (plan : Plan) (past : Trace)
+            → OrderStands self.now plan past
             → IsAnswerable plan.header past port (pair_in b) }
-        ensures none { result ≡ None → (plan : Plan) (past : Trace) → OrderStands self.now plan past → may_serve barrier_burst plan.header past port ≡ false }
+        ensures none { result ≡ None → (plan : Plan) (past : Trace) → OrderStands self.now plan past
+            → may_serve barrier_burst plan.header past port ≡ false }
     {
         if self.waiting.has(port) {
             return None;
@@ -143,7 +154,8 @@ impl Order {
     /// Puts the R and the B of a barrier pair that may have them.
     fn answer(&mut self, pair: &OpenPair, out: &mut Burst)
         requires { out.old ≡ [] }
-        ensures { (plan : Plan) (past : Trace) (p : ℕ) → OrderStands self.old plan past → IsAnswerable plan.header past p (pair_in pair.now)
+        ensures { (plan : Plan) (past : Trace) (p : ℕ) → OrderStands self.old plan past
+            → IsAnswerable plan.header past p (pair_in pair.now)
             → IsTurn self.new plan past p out.new }
     {
         self.put(plain_transfer(&pair.read), out);
@@ -152,7 +164,8 @@ impl Order {
 
     /// The DVM message that the port gets next.
     fn next_message(&self, port: u8) -> Option<Message>
-        ensures { (plan : Plan) (past : Trace) → IsCurrent self.now plan past → result ≡ next_for plan.header past port }
+        ensures { (plan : Plan) (past : Trace) → IsCurrent self.now plan past
+            → result ≡ next_for plan.header past port }
     {
         if is_ace(&self.header, port) {
             self.system.next_message(port)
@@ -175,7 +188,8 @@ impl Order {
 
     /// The message is the one that the port gets next.
     fn is_next(&self, port: u8, message: &Message) -> bool
-        ensures { (plan : Plan) (past : Trace) → IsCurrent self.now plan past → result ≡ is_next_for plan.header past message.now port }
+        ensures { (plan : Plan) (past : Trace) → IsCurrent self.now plan past
+            → result ≡ is_next_for plan.header past message.now port }
     {
         match self.next_message(port) {
             None => false,
@@ -185,9 +199,14 @@ impl Order {
 
     /// A message of the port that is the next for some port: then a part of it is outstanding.
     fn forwardable(&self, port: u8) -> Option<Message>
-        ensures some { (m : Message) → result ≡ Some m → (plan : Plan) (past : Trace) → OrderStands self.now plan past → IsForwardable plan.header past port m }
-        ensures none { result ≡ None → (plan : Plan) (past : Trace) → OrderStands self.now plan past → may_forward plan.header past port ≡ false }
+        ensures some { (m : Message) → result ≡ Some m → (plan : Plan) (past : Trace)
+            → OrderStands self.now plan past → IsForwardable plan.header past port m }
+        ensures none { result ≡ None → (plan : Plan) (past : Trace) → OrderStands self.now plan past
+            → may_forward plan.header past port ≡ false }
     {
+        if self.quiet.has(port) {
+            return None;
+        }
         if !has_message_part(self.ports.reads(port)) {
             return None;
         }
@@ -203,7 +222,8 @@ impl Order {
 
     /// Puts the parts of the message for the port.
     fn forward_to(&mut self, port: u8, message: &Message, out: &mut Burst)
-        ensures current { (plan : Plan) (past : Trace) → IsCurrent self.old plan past → IsLegal plan (onto (forwards_to port message.now) past)
+        ensures current { (plan : Plan) (past : Trace) → IsCurrent self.old plan past
+            → IsLegal plan (onto (forwards_to port message.now) past)
             → IsCurrent self.new plan (onto (forwards_to port message.now) past) }
         ensures burst { length out.old ≤ 14 → out.new ≡ out.old ++ forwards_to port message.now }
     {
@@ -216,7 +236,8 @@ impl Order {
     /// Puts the parts of the message for each port that gets it next.
     fn forward(&mut self, message: &Message, out: &mut Burst)
         requires { out.old ≡ [] }
-        ensures { (plan : Plan) (past : Trace) (p : ℕ) → OrderStands self.old plan past → IsForwardable plan.header past p message.now
+        ensures { (plan : Plan) (past : Trace) (p : ℕ) → OrderStands self.old plan past
+            → IsForwardable plan.header past p message.now
             → IsTurn self.new plan past p out.new }
     {
         for q in 0..self.header.ports {
@@ -228,8 +249,10 @@ impl Order {
 
     /// An outstanding read is a part of a message or a DVM Complete, and may have its R.
     fn may_respond(&self, x: &Progress) -> bool
-        ensures { (plan : Plan) (past : Trace) (p : ℕ) (k : ℕ) (y : Transaction) → OrderStands self.now plan past
-            → slice_get (pending_of plan.header past p Read) k ≡ Some y → x.now ≡ progress_of plan.header past y
+        ensures { (plan : Plan) (past : Trace) (p : ℕ) (k : ℕ) (y : Transaction)
+            → OrderStands self.now plan past
+            → slice_get (pending_of plan.header past p Read) k ≡ Some y
+            → x.now ≡ progress_of plan.header past y
             → result ≡ may_begin plan.header past (dvm_burst plan.header past y) }
     {
         let read = &x.transaction;
@@ -238,9 +261,14 @@ impl Order {
 
     /// The first part of a message or DVM Complete of the port that may have its R.
     fn respondable(&self, port: u8) -> Option<Transaction>
-        ensures some { (x : Transaction) → result ≡ Some x → (plan : Plan) (past : Trace) → OrderStands self.now plan past → IsRespondable plan.header past port x }
-        ensures none { result ≡ None → (plan : Plan) (past : Trace) → OrderStands self.now plan past → may_serve dvm_burst plan.header past port ≡ false }
+        ensures some { (x : Transaction) → result ≡ Some x → (plan : Plan) (past : Trace)
+            → OrderStands self.now plan past → IsRespondable plan.header past port x }
+        ensures none { result ≡ None → (plan : Plan) (past : Trace) → OrderStands self.now plan past
+            → may_serve dvm_burst plan.header past port ≡ false }
     {
+        if self.quiet.has(port) {
+            return None;
+        }
         let reads = self.ports.reads(port);
         for i in 0..reads.len() {
             if self.may_respond(&reads[i]) {
@@ -253,7 +281,8 @@ impl Order {
     /// Puts the R of a part of a message or DVM Complete that may have it.
     fn respond(&mut self, read: &Transaction, out: &mut Burst)
         requires { out.old ≡ [] }
-        ensures { (plan : Plan) (past : Trace) (p : ℕ) → OrderStands self.old plan past → IsRespondable plan.header past p read.now
+        ensures { (plan : Plan) (past : Trace) (p : ℕ) → OrderStands self.old plan past
+            → IsRespondable plan.header past p read.now
             → IsTurn self.new plan past p out.new }
     {
         self.put(plain_transfer(read), out);
@@ -261,7 +290,8 @@ impl Order {
 
     /// The port's Sync may be completed.
     fn may_complete(&self, port: u8) -> bool
-        ensures { (plan : Plan) (past : Trace) → OrderStands self.now plan past → result ≡ may_give_completion plan.header past port }
+        ensures { (plan : Plan) (past : Trace) → OrderStands self.now plan past
+            → result ≡ may_give_completion plan.header past port }
     {
         is_ace(&self.header, port)
             && self
@@ -273,7 +303,8 @@ impl Order {
     /// Puts the AC that completes the port's Sync, where it may have it.
     fn complete(&mut self, port: u8, out: &mut Burst)
         requires { out.old ≡ [] }
-        ensures { (plan : Plan) (past : Trace) → OrderStands self.old plan past → may_give_completion plan.header past port ≡ true
+        ensures { (plan : Plan) (past : Trace) → OrderStands self.old plan past
+            → may_give_completion plan.header past port ≡ true
             → IsTurn self.new plan past port out.new }
     {
         self.put(sync_completion(port), out);

@@ -12,7 +12,8 @@ use ace_event::Event;
 use ace_portck::PortCheck;
 use ace_sysck::{OpenPair, SysCheck};
 
-/// Of each port whether its barrier was found to have to wait, when the last event came that may begin or end a wait of the port.
+/// Of each port whether its barrier was found to have to wait, when the last event came that may
+/// begin or end a wait of the port.
 #[derive(Drop)]
 pub struct Waiting {
     ports: [bool; 16],
@@ -36,7 +37,8 @@ fn moved_port(event: &Event) -> Option<u8>
 
 /// The transaction at the place, if there is one, is before the pair.
 fn is_before(first: Option<usize>, pair: &OpenPair) -> bool
-    ensures { result ≡ is_some_and first (λ n. nat_lt n pair.now.read.place || nat_lt n pair.now.write.place) }
+    ensures { result ≡ is_some_and first (λ n. nat_lt n pair.now.read.place
+        || nat_lt n pair.now.write.place) }
 {
     match first {
         None => false,
@@ -44,9 +46,11 @@ fn is_before(first: Option<usize>, pair: &OpenPair) -> bool
     }
 }
 
-/// What is before the pair of the port that isn't complete hasn't come far enough, if there is such a pair.
+/// What is before the pair of the port that isn't complete hasn't come far enough, if there is such
+/// a pair.
 fn has_to_wait(port: u8, ports: &PortCheck, system: &SysCheck) -> bool
-    ensures { result ≡ true → (r : Recording) → portck.Stands ports.now r → sysck.Stands system.now r → HasToWait r.past port }
+    ensures { result ≡ true → (r : Recording) → portck.Stands ports.now r
+        → sysck.Stands system.now r → HasToWait r.past port }
 {
     let Some(pair) = system.open_pair(port) else {
         return false;
@@ -92,7 +96,8 @@ impl Waiting {
     /// Hears the event, which the others have heard.
     #[inline(always)]
     pub fn hear(&mut self, event: &Event, ports: &PortCheck, system: &SysCheck)
-        ensures { (h : Header) (past : Trace) → portck.Stands ports.now (record { header = h; past = event.now ∷ past })
+        ensures { (h : Header) (past : Trace)
+            → portck.Stands ports.now (record { header = h; past = event.now ∷ past })
             → sysck.Stands system.now (record { header = h; past = event.now ∷ past })
             → ((p : ℕ) → is_waiting self.old p ≡ true → HasToWait past p)
             → (p : ℕ) → is_waiting self.new p ≡ true → HasToWait (event.now ∷ past) p }

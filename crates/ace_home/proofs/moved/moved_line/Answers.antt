@@ -2,12 +2,16 @@ use Rattle.std.proofs.Common.{Some, option_map, ap, sym, ◌∙◌}
 use Rattle.ace_model.specs.declared.snoops.Snoop.{Snoop}
 use Rattle.ace_portck.specs.declared.target.Progress.{Progress}
 use Rattle.ace_portck.specs.Targets.{line_in}
-use Rattle.ace_home.proofs.HeldUp.{on-address, on-snoop, on-transaction, still-calm, still-off}
+use Rattle.ace_home.proofs.HeldUp.{on-address, on-silent, on-snoop, on-transaction, still-calm, still-off}
 use Rattle.ace_home.proofs.moved.moved_line.Goals as goal
 
 pub returns-in-Ac : goal.returns-in-Ac
 returns-in-Ac c = λ h past l a s off.
     still-off h past c.args.event.now l (Some c.in-Ac.addr) a (λ on. on-address h past c.in-Ac.port c.in-Ac.addr c.in-Ac.snoop l (ap (line_in h past) (sym c.in-Ac.is) ∙ on)) off
+
+pub returns-in-S : goal.returns-in-S
+returns-in-S c = λ h past l a s off.
+    still-off h past c.args.event.now l (Some c.in-S.addr) a (λ on. on-silent h past c.in-S.port c.in-S.addr l c.in-S.st (ap (line_in h past) (sym c.in-S.is) ∙ on)) off
 
 pub returns-in-Cr : goal.returns-in-Cr
 returns-in-Cr c = λ h past l a s off.
@@ -70,4 +74,5 @@ returns-in_default c = λ h past l a s off.
       sent = d.not-Cd;
       grant = d.not-G;
       memory = d.not-M;
+      silent = d.not-S;
     })

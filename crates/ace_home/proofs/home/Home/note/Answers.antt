@@ -44,7 +44,7 @@ returns c = λ plan past s legal.
           let held : IsHeldUp h past x.addr → granted h (e ∷ past) x.addr ≡ Some x → IsHeldUp h (e ∷ past) x.addr = λ had is.
           elim (line-or-not c.moved_line-line.result x.addr) [
             | inl here ↦ woken.holder h (e ∷ past) x.addr x shares here is (subst (λ q. has_port after.resting q ≡ true) (sym (of-at h (e ∷ past) p x o).port) t)
-            | inr off ↦ let g = (s.shares.tell.lines.lines x.addr).grant in held-stays h past e x.addr _ a g (still x.addr off _ g) had
+            | inr off ↦ let g = (s.shares.tell.lines.lines x.addr).grant in held-stays h past e a x.addr (still x.addr off) _ g had
           ] in
           still-waits h past e a c.moved_line-line.result still (λ l. (_, (s.shares.tell.lines.lines l).grant)) p x was own.1 lasts held (s.resting p own.0 x was);
     })

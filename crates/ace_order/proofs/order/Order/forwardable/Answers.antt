@@ -12,8 +12,18 @@ use Rattle.ace_order.specs.Messages.{next_for}
 use Rattle.ace_order.proofs.ForwardSteps.{none-forwards}
 use Rattle.ace_order.proofs.NextMessages.{gets}
 use Rattle.ace_order.proofs.StillOut.{any-told, next-pending}
+use Rattle.ace_order.proofs.WithoutDvm.{no-message}
 use Rattle.ace_order.proofs.order.Order.forwardable.Goals as goal
 use Rattle.ace_order.proofs.order.Order.forwardable.Goals.{in-Some+else-sender-port, in_default}
+
+pub returns-then-has-clause-none : goal.returns-then-has-clause-none
+returns-then-has-clause-none c = λ _ plan past s.
+    let h = plan.header in
+    let p = c.args.port in
+    let none = s.current.quiet p (sym c.has.ensures ∙ c.if-has.true) in
+    none-forwards h past p s.forwarded (λ r n low next own.
+    let out = next-pending h past r n (gets h past r n (s.forwarded r) next) s.current.legal.accepted in
+    let bad : true ≡ false = sym out ∙ ap (λ q. list_any is_message_part (pending_of h past q Read)) own ∙ no-message h past p none in cc)
 
 pub returns-then-not-has_message_part-clause-none : goal.returns-then-not-has_message_part-clause-none
 returns-then-not-has_message_part-clause-none c = λ _ plan past s.

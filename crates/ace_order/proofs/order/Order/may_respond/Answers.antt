@@ -10,7 +10,8 @@ use Rattle.ace_runs.specs.OrderSteps.{plain_transfer}
 use Rattle.ace_runs.proofs.NeverStuck.Barriers.Halves.{dvm-no-half}
 use Rattle.ace_engine.proofs.Pending.{pending-at}
 use Rattle.ace_portck.specs.declared.target.Progress.{Progress}
-use Rattle.ace_order.proofs.DvmSteps.{dvm-begins, dvm-done, dvm-is-plain, dvm-none, is_dvm}
+use Rattle.ace_order.specs.Quiet.{is_dvm}
+use Rattle.ace_order.proofs.DvmSteps.{dvm-begins, dvm-done, dvm-is-plain, dvm-none}
 use Rattle.ace_order.proofs.PlainReads.{named-out}
 use Rattle.ace_order.proofs.order.Order.may_respond.Goals as goal
 use Rattle.ace_order.proofs.order.Order.may_respond.Goals.{then-is_dvm, else-is_dvm}

@@ -18,6 +18,7 @@ returns c =
         system = subst (λ (h : Header). sysck.Stands c.in-Ok-with_room.system (record { header = h; past = [] })) e (c.in-Ok-with_room.ensures.stands (subst IsHeader (sym e) right.header));
         lines = c.in-Ok-with_room.ensures.room;
         waiting = λ p now. let bad : false ≡ true = sym (c.none.ensures p) ∙ now in cc;
+        quiet = λ p now. refl;
       };
       answered = λ p k b there. cc;
       forwarded = λ q. ([], [], refl, refl);

@@ -23,4 +23,5 @@ returns c = λ plan past s legal.
       system = heard.stands;
       lines = heard.room;
       waiting = c.hear-3.ensures plan.header past ports heard.stands s.waiting;
+      quiet = c.hear-4.ensures plan.header past legal.accepted ports s.quiet;
     }

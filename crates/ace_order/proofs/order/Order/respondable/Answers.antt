@@ -8,9 +8,17 @@ use Rattle.ace_portck.specs.declared.target.Progress.{Progress}
 use Rattle.ace_portck.specs.Pending.{pending_of}
 use Rattle.ace_portck.specs.Targets.{Recording, progress_of}
 use Rattle.ace_order.specs.Order.{IsRespondable}
-use Rattle.ace_order.proofs.DvmSteps.{serves-none}
+use Rattle.ace_order.proofs.DvmSteps.{dvm-none, serves-none}
+use Rattle.ace_order.proofs.WithoutDvm.{no-dvm}
 use Rattle.ace_engine.proofs.Listed.{listed-at, listed-within}
 use Rattle.ace_order.proofs.order.Order.respondable.Goals as goal
+
+pub returns-then-has-clause-none : goal.returns-then-has-clause-none
+returns-then-has-clause-none c = λ _ plan past s.
+    let h = plan.header in
+    let p = c.args.port in
+    let none = s.current.quiet p (sym c.has.ensures ∙ c.if-has.true) in
+    serves-none h past p (λ k x at. dvm-none h past x (no-dvm h past p none k x at))
 
 pub returns-then-may_respond-clause-some : goal.returns-then-may_respond-clause-some
 returns-then-may_respond-clause-some c = λ x is plan past s.
