@@ -33,6 +33,12 @@ const struct leaf *__x86_get_cpuid_feature_leaf(unsigned number) {
     return it;
 }
 
+/* The call by which a program asks for the size of a file, which musl has from 1.2.5 on: number 332 on x86-64. */
+extern long syscall(long number, ...);
+__attribute__((weak)) int statx(int folder, const char *path, int flags, unsigned wanted, void *into) {
+    return (int)syscall(332L, (long)folder, path, (long)flags, (unsigned long)wanted, into);
+}
+
 /* The name by which it writes that the processor is too old. */
 long __write(int file, const void *bytes, unsigned long count) {
     return write(file, bytes, count);

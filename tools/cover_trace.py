@@ -1,6 +1,6 @@
-"""A trace that shows every point of coverage: a few events of a line of its own for each, with zeros for data.
+"""A trace that shows every point of coverage: a few events of a line of its own for each, with zeros for data where no rule asks for others.
 
-Ports 0 and 1 are ACE ports, port 2 is an ACE-Lite port. Each part takes a port into a state, as `get` does, and then has the transaction, the answer or the
+Ports 0, 1 and 3 are ACE ports, port 2 is an ACE-Lite port. The trace is of version 2, where memory may open with other than zeros. Each part takes a port into a state, as `get` does, and then has the transaction, the answer or the
 end that it is there for."""
 READS = {'ReadNoSnoop': 0, 'ReadOnce': 0, 'ReadShared': 1, 'ReadClean': 2, 'ReadNotSharedDirty': 3, 'ReadUnique': 7, 'CleanShared': 8, 'CleanInvalid': 9,
          'CleanUnique': 11, 'MakeUnique': 12, 'MakeInvalid': 13}
@@ -10,12 +10,13 @@ FETCHES = ('ReadShared', 'ReadClean', 'ReadNotSharedDirty', 'ReadUnique')
 SHARING = ('ReadOnce', 'ReadShared', 'ReadClean', 'ReadNotSharedDirty')
 LINE_READS = ('ReadNoSnoop', 'ReadOnce', *FETCHES)
 WORD, LINE = '0' * 32, '0' * 128
+ONES, LINE_OF_ONES = '1' * 32, '1' * 128
 DIRTY, UNIQUE = ('UD', 'SD'), ('UC', 'UD')
 
 
 class Trace:
     def __init__(self):
-        self.lines, self.last = ['ACE 1', 'PORTS AAL'], 0
+        self.lines, self.last = ['ACE 2', 'PORTS AALA'], 0
 
     def put(self, *lines):
         self.lines.extend(lines)
@@ -40,7 +41,7 @@ class Trace:
     def transfers(self, port, kind, resp, state):
         beats = (0, 0, 0, 1) if kind in LINE_READS else (1,)
         self.put(*(f'R {port} 0 {resp:x} {last} {WORD}' for last in beats))
-        if port < 2:
+        if port != 2:
             self.put(f'RK {port} {state}')
 
     def read(self, port, kind, line, resp=0, state='I', **more):
@@ -60,7 +61,7 @@ class Trace:
                 self.put(f'G {port} W 0')
             self.put(f'M {port} W 0 {LINE}')
         self.put(f'B {port} 0 0')
-        if port < 2:
+        if port != 2:
             self.put(f'WK {port} {state}')
 
     def write(self, port, kind, line, state='I'):
@@ -226,7 +227,8 @@ def message(trace, *words):
     for part, word in enumerate(words):
         trace.put(f'AR 1 {part} {word} f 1 0 0')
     for word in words:
-        trace.put(f'AC 0 {word} f', 'CR 0 00 I')
+        for port in (0, 3):
+            trace.put(f'AC {port} {word} f', f'CR {port} 00 I')
     for part, word in enumerate(words):
         trace.put(f'R 1 {part} 0 1 {WORD}', 'RK 1 I')
 
@@ -235,7 +237,10 @@ def messages(trace):
     message(trace, '00000000')
     message(trace, '00000001', '00000040')
     message(trace, '0000c000')
-    trace.put('AR 0 0 00000000 e 1 0 0', f'R 0 0 0 1 {WORD}', 'RK 0 I', 'AC 1 00000000 e', 'CR 1 00 I')
+    for port in (0, 3):
+        trace.put(f'AR {port} 0 00000000 e 1 0 0', f'R {port} 0 0 1 {WORD}', f'RK {port} I')
+    trace.put('AC 1 00000000 e', 'CR 1 00 I')
+    message(trace, '00000000', '00000000')
 
 
 def exclusives(trace):
@@ -255,10 +260,171 @@ def others(trace):
     trace.read(1, 'ReadNoSnoop', trace.line(), domain=3)
 
 
+def beats(record, word):
+    """The four beats of a line: what stands before and behind their LAST."""
+    return [f'{record} {last} {word}' for last in (0, 0, 0, 1)]
+
+
+def data_of_ones(trace):
+    """A port loads exclusively, stores so and loads what it stored; another port reads that, and it goes to memory."""
+    line = trace.line()
+    trace.get(0, line, 'UC')
+    trace.put(f'L 0 {line} 0 1 {WORD}', f'D 0 {line} ffffffffffffffff 1 {LINE_OF_ONES}', f'L 0 {line} 3 0 {ONES}')
+    trace.address(1, 'ReadOnce', line)
+    trace.put('G 1 R 0', f'AC 0 {line} 0', 'CR 0 09 UD', *beats('CD 0', ONES), *beats('R 1 0 8', ONES), 'RK 1 I')
+    trace.address(0, 'WriteClean', line)
+    trace.put(*beats('W 0 ffff', ONES), f'M 0 W 0 {LINE_OF_ONES}', 'B 0 0 0', 'WK 0 UC')
+
+
+def transactions_at_once(trace):
+    """Two reads and two writes of a port are under way."""
+    lines = [trace.line() for _ in range(4)]
+    trace.put(*(f'AR 1 {i} {lines[i]} 0 1 0 0' for i in (0, 1)), *(f'AW 1 {i} {lines[2 + i]} 0 1 0' for i in (0, 1)))
+    for i in (0, 1):
+        trace.put(f'G 1 R {i}', *beats(f'R 1 {i} 0', WORD))
+        trace.put(*beats('W 1 ffff', WORD), f'G 1 W {i}', f'M 1 W {i} {LINE}', f'B 1 {i} 0')
+    trace.put('RK 1 I', 'RK 1 I', 'WK 1 I', 'WK 1 I')
+
+
+def barrier_behind_a_read(trace):
+    """A read is granted behind a barrier that comes after it, which is answered before the read is."""
+    trace.put(f'AR 1 0 {trace.line()} 0 1 0 0', 'AR 1 1 00000000 0 1 1 0', 'AW 1 1 00000000 0 1 1', 'G 1 R 0', f'R 1 1 0 1 {WORD}', 'B 1 1 0',
+              *beats('R 1 0 0', WORD), 'RK 1 I', 'RK 1 I', 'WK 1 I')
+
+
+def snoops_meet_transactions(trace):
+    """A snoop meets a WriteBack; one takes the line of a MakeUnique; a WriteEvict writes memory while its line is granted; two snoops of a port wait."""
+    line = trace.line()
+    trace.get(0, line, 'UD')
+    trace.address(0, 'WriteBack', line)
+    trace.snoop('ReadOnce', line, 9, 'UD')
+    trace.end_write(0, 'WriteBack', 'I')
+    line = trace.line()
+    trace.get(1, line, 'SC')
+    trace.address(1, 'MakeUnique', line)
+    trace.address(0, 'ReadUnique', line)
+    trace.put('G 0 R 0')
+    trace.answer(1, 7, line, 0, 'I')
+    trace.transfers(0, 'ReadUnique', 0, 'UC')
+    trace.put('G 1 R 0')
+    trace.answer(0, 13, line, 0, 'I')
+    trace.put(f'R 1 0 0 1 {WORD}')
+    trace.store(1, line)
+    trace.put('RK 1 UD')
+    line = trace.line()
+    trace.get(0, line, 'UC')
+    trace.address(0, 'WriteEvict', line)
+    trace.address(1, 'ReadOnce', line)
+    trace.put('G 1 R 0')
+    trace.answer(0, 0, line, 8, 'UC')
+    trace.end_write(0, 'WriteEvict', 'I')
+    trace.transfers(1, 'ReadOnce', 8, 'I')
+    lines = [trace.line() for _ in range(2)]
+    trace.put(*(f'AR 1 {i} {line} 0 1 0 0' for i, line in enumerate(lines)), 'G 1 R 0', 'G 1 R 1', *(f'AC 0 {line} 0' for line in lines), 'CR 0 00 I', 'CR 0 00 I')
+    trace.put(*beats('R 1 0 0', WORD), *beats('R 1 1 0', WORD), 'RK 1 I', 'RK 1 I')
+
+
+def rival_stores(trace):
+    """Two exclusive stores of a line: the first passes, the other fails."""
+    line = trace.line()
+    trace.read(0, 'ReadShared', line, 1, 'SC', lock=1)
+    trace.address(1, 'ReadShared', line, lock=1)
+    trace.put('G 1 R 0')
+    trace.answer(0, 1, line, 8, 'SC')
+    trace.transfers(1, 'ReadShared', 9, 'SC')
+    for port in (0, 1):
+        trace.address(port, 'CleanUnique', line, lock=1)
+    trace.put('G 0 R 0')
+    trace.answer(1, 9, line, 0, 'I')
+    trace.transfers(0, 'CleanUnique', 1, 'UC')
+    trace.put('G 1 R 0')
+    trace.transfers(1, 'CleanUnique', 0, 'I')
+
+
+def merged_write(trace):
+    """A write of some bytes of a line that another port holds dirty."""
+    line = trace.line()
+    trace.get(0, line, 'UD')
+    trace.address(2, 'WriteUnique', line)
+    trace.put(*beats('W 2 00ff', WORD), 'G 2 W 0')
+    trace.answer(0, 9, line, 5, 'I')
+    trace.put(f'M 2 W 0 {LINE}', 'B 2 0 0')
+
+
+def barrier_that_is_ignored(trace):
+    trace.put('AR 1 1 00000000 0 1 1 0', 'AW 1 1 00000000 0 1 1')
+    trace.read(1, 'ReadOnce', trace.line(), bar=2)
+    trace.put(f'R 1 1 0 1 {WORD}', 'RK 1 I', 'B 1 1 0', 'WK 1 I')
+
+
+def sixteen_reads(trace):
+    lines = [trace.line() for _ in range(16)]
+    trace.put(*(f'AR 1 {i:x} {line} 0 1 0 0' for i, line in enumerate(lines)))
+    for i in range(16):
+        trace.put(f'G 1 R {i:x}', *beats(f'R 1 {i:x} 0', WORD), 'RK 1 I')
+
+
+def operations(trace):
+    trace.put('OP 0 0000 ok', 'OP 0 0001 fail', 'OP 0 0002 skip')
+
+
+def in_version_2(line):
+    """The record with a port of two digits, which version 2 has."""
+    name, port, *rest = line.split(' ')
+    return line if name in ('ACE', 'PORTS', 'MEM') else ' '.join((name, '0' + port, *rest))
+
+
+def three_want_a_line(trace):
+    """Ports 0 and 2 wait for a line that port 1 has been granted; what it gets is stored to while port 2 reads it, and passed on."""
+    line = trace.line()
+    trace.address(1, 'ReadUnique', line)
+    trace.put('G 1 R 0')
+    trace.address(0, 'ReadUnique', line)
+    trace.address(2, 'ReadOnce', line)
+    trace.transfers(1, 'ReadUnique', 0, 'UC')
+    trace.store(1, line)
+    trace.put('G 2 R 0')
+    trace.answer(1, 0, line, 9, 'UD')
+    trace.put(f'R 2 0 0 0 {WORD}')
+    trace.store(1, line)
+    trace.put(*(f'R 2 0 0 {last} {WORD}' for last in (0, 0, 1)), 'G 0 R 0')
+    trace.answer(1, 7, line, 5, 'I')
+    trace.transfers(0, 'ReadUnique', 4, 'UD')
+    line = trace.line()
+    for port in (0, 1):
+        trace.address(port, 'ReadUnique', line)
+    trace.address(2, 'ReadOnce', line)
+    trace.put('G 2 R 0')
+    trace.transfers(2, 'ReadOnce', 0, 'I')
+    for port in (0, 1):
+        trace.put(f'G {port} R 0')
+        if port:
+            trace.answer(0, 7, line, 0, 'I')
+        trace.transfers(port, 'ReadUnique', 0, 'UC')
+
+
+def sharers(trace):
+    """Three holders, one of them dirty; two of them are snooped, and answer with data in the other order; one of them loads after that."""
+    line = trace.line()
+    trace.get(0, line, 'SD')
+    for port in (1, 3):
+        trace.address(port, 'ReadShared', line)
+        trace.put(f'G {port} R 0')
+        trace.answer(0, 1, line, 9, 'SD')
+        if port == 3:
+            trace.answer(1, 1, line, 8, 'SC')
+        trace.transfers(port, 'ReadShared', 8, 'SC')
+    trace.address(2, 'ReadOnce', line)
+    trace.put('G 2 R 0', *(f'AC {port} {line} 0' for port in (0, 1, 3)), 'CR 3 08 SC', 'CR 1 09 SC', 'CR 0 09 SD', f'L 1 {line} 0 0 {WORD}', *beats('CD 0', WORD), *beats('CD 1', WORD))
+    trace.transfers(2, 'ReadOnce', 0, 'I')
+
+
 def whole_trace():
     """The bytes of the trace."""
     trace = Trace()
+    trace.put(f'MEM {trace.line()} {LINE_OF_ONES}')
     for part in (answers, answers_with_update, ends_of_fetches, ends_of_upgrades, ends_of_other_reads, ends_of_writes, silent_transitions, barriers, messages,
-                 exclusives, others):
+                 exclusives, others, data_of_ones, transactions_at_once, barrier_behind_a_read,
+                 three_want_a_line, sharers, snoops_meet_transactions, rival_stores, merged_write, barrier_that_is_ignored, sixteen_reads, operations):
         part(trace)
-    return ('\n'.join(trace.lines) + '\n').encode()
+    return ('\n'.join(map(in_version_2, trace.lines)) + '\n').encode()

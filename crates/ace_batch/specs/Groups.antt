@@ -17,7 +17,8 @@ number_or_zero (Some line) = line
 -- of the one and another, if that is like the first, the one that fails at an earlier line
 abbrev pub earlier_like : Entry → Entry → Entry → Entry
 earlier_like e best other =
-    if is_like e other && nat_lt (number_or_zero other.line) (number_or_zero best.line) then other else best
+    if is_like e other && nat_lt (number_or_zero other.line) (number_or_zero best.line)
+    then other else best
 
 -- Traces that failed alike: how many, and the one to look at, which fails at the earliest line.
 pub record Group : Type 0 where
@@ -34,7 +35,8 @@ group_of entries e = record {
 -- the first trace of each group, with one more trace
 abbrev pub with_kind : List Entry → Entry → List Entry
 with_kind kinds e =
-    if not (is_accepted e.outcome) && not (list_any (λ kind. is_like kind e) kinds) then kinds ++ e ∷ []
+    if not (is_accepted e.outcome) && not (list_any (λ kind. is_like kind e) kinds)
+    then kinds ++ e ∷ []
     else kinds
 
 abbrev pub kinds_of : List Entry → List Entry

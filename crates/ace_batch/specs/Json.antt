@@ -52,7 +52,8 @@ entry_json e = which_json e ++ (numbers_json e ++ (words_json e ++ codes "}\n"))
 -- the first line: which part of the list it is, and how many traces follow
 unfoldable pub part_json : ℕ → ℕ → List ℕ
 part_json part parts =
-    codes "{\"format\":\"ace batch 1\",\"shard\":\"" ++ (decimal part ++ (codes "/" ++ decimal parts))
+    codes "{\"format\":\"ace batch 1\",\"shard\":\""
+    ++ (decimal part ++ (codes "/" ++ decimal parts))
 
 unfoldable pub traces_name : List ℕ
 traces_name = codes "\",\"traces\":"

@@ -14,7 +14,8 @@ place_text e = string_bytes e.path ++ line_part e.line
 
 -- what is told: what is wrong, behind the clause or the reason if there is one
 unfoldable pub what_text : Entry → List ℕ
-what_text e = (if has_name e.outcome then e.signature.items ++ codes ": " else []) ++ e.message.items
+what_text e =
+    (if has_name e.outcome then e.signature.items ++ codes ": " else []) ++ e.message.items
 
 -- the text in so many columns at least
 unfoldable pub padded : ℕ → List ℕ → List ℕ

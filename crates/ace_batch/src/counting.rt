@@ -100,8 +100,8 @@ fn first_of(entries: &[Entry]) -> u8
     0
 }
 
-/// The status of all of these traces: the first that occurs of 1, 3, 8, 6, 4 and 7, and else 0. Of no
-/// trace it is 2.
+/// The status of all of these traces: the first that occurs of 1, 3, 8, 6, 4 and 7, and else 0. Of
+/// no trace it is 2.
 pub fn status_of_all(entries: &[Entry]) -> u8
     ensures value { result ≡ status_of_all entries.now }
     ensures no_write_fault { result ≢ 5 }

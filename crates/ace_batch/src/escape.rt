@@ -35,8 +35,12 @@ fn push_json_byte(text: &mut Vec<u8>, byte: u8) -> Result<(), NoMemory>
 }
 
 /// Adds the text as it stands in a JSON string.
+///
+/// # Errors
+///
+/// `NoMemory` where there is none for the longer text.
 #[tactic(auto, using(crate::proofs::Escaping::json_step))]
-pub(crate) fn push_json(text: &mut Vec<u8>, given: &[u8]) -> Result<(), NoMemory>
+pub fn push_json(text: &mut Vec<u8>, given: &[u8]) -> Result<(), NoMemory>
     ensures { OnOk result (text.new.items ≡ text.old.items ++ json_text given.now) }
 {
     for byte in given {

@@ -10,7 +10,11 @@ use crate::shard::Shard;
 use ace_io::NoMemory;
 
 /// Adds the number, or that there is none.
-fn push_optional(text: &mut Vec<u8>, number: Option<u64>) -> Result<(), NoMemory>
+///
+/// # Errors
+///
+/// `NoMemory` where there is none for the longer text.
+pub fn push_optional(text: &mut Vec<u8>, number: Option<u64>) -> Result<(), NoMemory>
     ensures { OnOk result (text.new.items ≡ text.old.items ++ number_json number) }
 {
     match number {
@@ -222,8 +226,8 @@ fn push_end(text: &mut Vec<u8>, count: u64) -> Result<(), NoMemory>
     push(text, b"}\n")
 }
 
-/// Adds the results as JSON, an object a line: first which part of the list they are of and how many,
-/// then each trace, and last that these were all.
+/// Adds the results as JSON, an object a line: first which part of the list they are of and how
+/// many, then each trace, and last that these were all.
 ///
 /// # Errors
 ///

@@ -17,7 +17,8 @@ mod summary;
 
 pub use counting::status_of_all;
 pub use entry::Entry;
-pub use json::{push_part_results, push_results};
+pub use escape::push_json;
+pub use json::{push_optional, push_part_results, push_results};
 pub use junit::push_junit;
 pub use outcome::Outcome;
 pub use row::push_rows;

@@ -52,7 +52,7 @@ impl Outcome {
     }
 
     /// What it is called in a list of results.
-    pub(crate) fn verdict(self) -> &'static [u8]
+    pub fn verdict(self) -> &'static [u8]
         ensures { result.now ≡ verdict_of self }
     {
         match self {

@@ -282,7 +282,8 @@ pub fn push_summary(alloc: Global, text: &mut Vec<u8>, entries: &[Entry]) -> Res
     push_findings(alloc, text, entries)
 }
 
-/// What is told of the traces: the line of each, or only of those that aren't accepted, and the summary.
+/// What is told of the traces: the line of each, or only of those that aren't accepted, and the
+/// summary.
 ///
 /// # Errors
 ///

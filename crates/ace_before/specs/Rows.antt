@@ -1,7 +1,7 @@
 -- The rows that tell of a line: of its ports, of memory, and of its grant.
 use Rattle.std.specs.Prelude.{ℕ, ◌+◌, ◌++◌, ◌&&◌, ◌||◌, ◌==◌, not, nat_lt, Bool, true, false, if◌then◌else◌, List, [], ◌∷◌, Option, Some, None, codes, decimal, is_none, is_some}
 use Rattle.std.specs.List.{count_by, list_all, list_any}
-use Rattle.ace_before.specs.Words.{called, short_line, snoop_words}
+use Rattle.ace_before.specs.Words.{called, short_line, since_part, snoop_words, written_part}
 use Rattle.ace_before.specs.declared.before.LineBefore.{LineBefore}
 use Rattle.ace_before.specs.declared.before.PortBefore.{PortBefore}
 use Rattle.ace_before.specs.declared.before.SnoopBefore.{SnoopBefore}
@@ -35,13 +35,14 @@ is_answered _ = false
 abbrev pub is_idle : PortBefore → Bool
 is_idle x = is_invalid x.state && is_none x.own && is_unsnooped x.snoop
 
--- the state of an ACE port, and its data where it holds the line
+-- the state of an ACE port, since when, and its data where it holds the line
 unfoldable pub copy_part : LineState → Line → List ℕ
 copy_part st copy = if is_invalid st then [] else codes "; " ++ short_line copy
 
 unfoldable pub state_part : Bool → PortBefore → List ℕ
 state_part ace x =
-    if ace then state_text x.state ++ copy_part x.state x.copy else codes "ACE-Lite"
+    if ace then state_text x.state ++ since_part x.since ++ copy_part x.state x.copy
+    else codes "ACE-Lite"
 
 unfoldable pub outstanding_words : List ℕ
 outstanding_words = codes "; outstanding: "
@@ -51,7 +52,8 @@ own_part None = []
 own_part (Some x) = outstanding_words ++ called x.transaction
 
 unfoldable pub port_name : ℕ → List ℕ
-port_name p = codes "    port " ++ decimal p ++ (if nat_lt p 10 then codes "       " else codes "      ")
+port_name p =
+    codes "    port " ++ decimal p ++ (if nat_lt p 10 then codes "       " else codes "      ")
 
 -- the row of a port; none of one that is idle
 unfoldable pub port_row : Header → ℕ → PortBefore → List ℕ
@@ -88,7 +90,9 @@ unfoldable pub grant_name : List ℕ
 grant_name = codes "    grant        "
 
 unfoldable pub memory_row : LineBefore → List ℕ
-memory_row b = memory_name ++ short_line b.memory ++ memory_words (is_behind b) ++ codes "\n"
+memory_row b =
+    memory_name ++ short_line b.memory ++ written_part b.written ++ memory_words (is_behind b)
+    ++ codes "\n"
 
 -- the dirty data that a snooped port passed, as long as they are under way
 unfoldable pub passed_row : Option Line → List ℕ
@@ -108,7 +112,8 @@ answered_count ports = count_by (λ (x : PortBefore). is_answered x.snoop) ports
 unfoldable pub snoops_part : ℕ → ℕ → Bool → List ℕ
 snoops_part snooped answered snoops =
     if snooped == 0 then (if snoops then codes "; no snoop sent" else [])
-    else codes "; " ++ decimal answered ++ codes " of " ++ decimal snooped ++ codes " snoops answered"
+    else codes "; " ++ decimal answered ++ codes " of " ++ decimal snooped
+    ++ codes " snoops answered"
 
 -- how far a read of the kind has come, and a write
 unfoldable pub transfers_part : ℕ → ℕ → List ℕ
@@ -135,7 +140,8 @@ step_part None x = write_part x.written
 unfoldable pub wait_part : Progress → List ℕ
 wait_part x =
     if x.complete
-    then (if is_read x.transaction.chan then codes "; waits for its RK" else codes "; waits for its WK")
+    then (if is_read x.transaction.chan then codes "; waits for its RK"
+    else codes "; waits for its WK")
     else []
 
 unfoldable pub granted_part : List PortBefore → Progress → List ℕ
@@ -144,9 +150,18 @@ granted_part ports x =
     ++ snoops_part (snooped_count ports) (answered_count ports) (is_some (snoop_of x.transaction))
     ++ step_part (read_kind x.transaction) x ++ wait_part x
 
-abbrev pub grant_words : List PortBefore → Option Progress → List ℕ
-grant_words ports None = codes "none"
-grant_words ports (Some x) = granted_part ports x
+unfoldable pub grant_since : List ℕ
+grant_since = codes "since event "
+
+unfoldable pub grant_start : ℕ → List ℕ
+grant_start number = grant_since ++ decimal number ++ codes ": "
+
+abbrev pub grant_words : List PortBefore → ℕ → Option Progress → List ℕ
+grant_words ports number None = codes "none"
+grant_words ports number (Some x) = grant_start number ++ granted_part ports x
+
+unfoldable pub grant_text : LineBefore → List ℕ
+grant_text b = grant_words b.ports b.grant b.granted
 
 unfoldable pub grant_row : LineBefore → List ℕ
-grant_row b = grant_name ++ grant_words b.ports b.granted ++ codes "\n"
+grant_row b = grant_name ++ grant_text b ++ codes "\n"

@@ -20,6 +20,8 @@ pub enum SnoopBefore {
 pub struct PortBefore {
     /// The state in which the port has the line.
     pub state: LineState,
+    /// The number of the event that changed this state last, or 0.
+    pub since: u64,
     /// What it has of its data.
     pub copy: Line,
     /// Its outstanding transaction on the line, and how far that has come.
@@ -37,8 +39,12 @@ pub struct LineBefore {
     pub ports: [PortBefore; 32],
     /// What memory has of it.
     pub memory: Line,
+    /// The number of the event that wrote this, or 0.
+    pub written: u64,
     /// The transaction that is granted on the line, and how far it has come.
     pub granted: Option<Progress>,
+    /// The number of the last grant of the line, or 0.
+    pub grant: u64,
     /// The dirty data that a snooped port passed for it, as long as they are under way.
     pub passed: Option<Line>,
 }
@@ -50,6 +56,7 @@ impl PortBefore {
     /// Of a port that has nothing of the line.
     pub(crate) const NOTHING: PortBefore = PortBefore {
         state: LineState::I,
+        since: 0,
         copy: ZERO_LINE,
         own: None,
         snoop: SnoopBefore::Unsnooped,

@@ -11,5 +11,6 @@ mod text;
 mod words;
 
 pub use before::{LineBefore, PortBefore, SnoopBefore};
+pub use line_rows::push_grant_text;
 pub use looks::before_event;
 pub use text::push_line_before;

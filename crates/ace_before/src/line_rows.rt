@@ -1,7 +1,7 @@
 // The rows of memory and of the grant.
 ghost use Rattle.std.specs.Prelude.{◌≡◌, ◌≤◌, ◌++◌, OnOk, length, not};
 ghost use Rattle.std.specs.List.{count_by, list_any};
-ghost use Rattle.ace_before.specs.Rows.{answer_part, answered_count, grant_name, grant_row, grant_words, granted_part, is_answered, is_behind, memory_name, memory_row, memory_words, passed_name, passed_row, read_part, snooped_count, snoops_part, step_part, transfers_part, wait_part, write_part};
+ghost use Rattle.ace_before.specs.Rows.{answer_part, answered_count, grant_name, grant_row, grant_since, grant_start, grant_text, grant_words, granted_part, is_answered, is_behind, memory_name, memory_row, memory_words, passed_name, passed_row, read_part, snooped_count, snoops_part, step_part, transfers_part, wait_part, write_part};
 ghost use Rattle.ace_model.specs.DirtyPlace.{may_lose_data};
 ghost use Rattle.ace_model.specs.Trace.{is_some_and};
 ghost use Rattle.ace_model.specs.Transactions.{read_kind};
@@ -11,7 +11,7 @@ ghost use Rattle.ace_tables.specs.States.{is_dirty};
 
 use crate::before::{LineBefore, PortBefore, SnoopBefore};
 use crate::port_rows::is_unsnooped;
-use crate::words::{push_called, push_short_line};
+use crate::words::{push_called, push_short_line, push_written};
 use ace_codes::{ArKind, AwKind};
 use ace_event::{Channel, Line};
 use ace_io::NoMemory;
@@ -78,6 +78,7 @@ pub(crate) fn push_memory(text: &mut Vec<u8>, before: &LineBefore) -> Result<(),
 {
     push(text, memory_name())?;
     push_short_line(text, &before.memory)?;
+    push_written(text, before.written)?;
     push(text, memory_words(is_behind(before)))?;
     push(text, b"\n")
 }
@@ -248,19 +249,53 @@ fn push_granted(text: &mut Vec<u8>, ports: &[PortBefore], x: &Progress) -> Resul
     push(text, wait_words(x))
 }
 
+/// What stands before the number of the grant.
+#[tactic(auto, unfolding(crate::specs::Rows::grant_since))]
+fn grant_since() -> &'static [u8]
+    ensures { result.now ≡ grant_since }
+{
+    b"since event "
+}
+
+/// Adds which event is the grant.
+#[tactic(auto, unfolding(crate::specs::Rows::grant_start))]
+fn push_grant_start(text: &mut Vec<u8>, number: u64) -> Result<(), NoMemory>
+    ensures { OnOk result (text.new.items ≡ text.old.items ++ grant_start number) }
+{
+    push(text, grant_since())?;
+    push_number(text, number)?;
+    push(text, b": ")
+}
+
 /// Adds what is told of the grant.
 fn push_grant_words(
     text: &mut Vec<u8>,
     ports: &[PortBefore],
+    number: u64,
     granted: &Option<Progress>,
 ) -> Result<(), NoMemory>
     ensures { OnOk result (text.new.items
-        ≡ text.old.items ++ grant_words ports.now granted.now) }
+        ≡ text.old.items ++ grant_words ports.now number granted.now) }
 {
     match granted {
         None => push(text, b"none"),
-        Some(x) => push_granted(text, ports, x),
+        Some(x) => {
+            push_grant_start(text, number)?;
+            push_granted(text, ports, x)
+        }
     }
+}
+
+/// Adds what is told of the grant of the line.
+///
+/// # Errors
+///
+/// `NoMemory` where there is none for the longer text.
+#[tactic(auto, unfolding(crate::specs::Rows::grant_text))]
+pub fn push_grant_text(text: &mut Vec<u8>, before: &LineBefore) -> Result<(), NoMemory>
+    ensures { OnOk result (text.new.items ≡ text.old.items ++ grant_text before.now) }
+{
+    push_grant_words(text, &before.ports, before.grant, &before.granted)
 }
 
 /// The name of the row of the grant.
@@ -277,6 +312,6 @@ pub(crate) fn push_grant(text: &mut Vec<u8>, before: &LineBefore) -> Result<(), 
     ensures { OnOk result (text.new.items ≡ text.old.items ++ grant_row before.now) }
 {
     push(text, grant_name())?;
-    push_grant_words(text, &before.ports, &before.granted)?;
+    push_grant_text(text, before)?;
     push(text, b"\n")
 }

@@ -3,7 +3,7 @@ ghost use Rattle.std.specs.Prelude.{◌≡◌, ◌+◌, ◌≤◌, ◌++◌, OnO
 ghost use Rattle.ace_before.specs.Rows.{copy_part, is_idle, is_unsnooped, outstanding_words, own_part, port_name, port_row, port_rows, state_part};
 
 use crate::before::{PortBefore, SnoopBefore};
-use crate::words::{push_called, push_short_line, snoop_words};
+use crate::words::{push_called, push_short_line, push_since, snoop_words};
 use ace_codes::LineState;
 use ace_event::{Header, Line};
 use ace_io::NoMemory;
@@ -39,13 +39,14 @@ fn push_copy(text: &mut Vec<u8>, state: LineState, copy: &Line) -> Result<(), No
     push_short_line(text, copy)
 }
 
-/// Adds the state of an ACE port, and its data.
+/// Adds the state of an ACE port, since when, and its data.
 #[tactic(auto, unfolding(crate::specs::Rows::state_part))]
 fn push_state(text: &mut Vec<u8>, ace: bool, x: &PortBefore) -> Result<(), NoMemory>
     ensures { OnOk result (text.new.items ≡ text.old.items ++ state_part ace x.now) }
 {
     if ace {
         push(text, state_word(x.state))?;
+        push_since(text, x.since)?;
         push_copy(text, x.state, &x.copy)
     } else {
         push(text, b"ACE-Lite")

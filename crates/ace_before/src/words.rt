@@ -1,13 +1,13 @@
 // The words for what there is of a line.
-ghost use Rattle.std.specs.Prelude.{◌≡◌, ◌≤◌, ◌++◌, OnOk, drop, length, take};
-ghost use Rattle.ace_event.specs.Text.{line_digits};
+ghost use Rattle.std.specs.Prelude.{◌≡◌, ◌≤◌, ◌++◌, OnOk, drop, length};
 ghost use Rattle.ace_model.specs.Transactions.{read_kind, write_kind};
-ghost use Rattle.ace_before.specs.Words.{called, ends, is_repeated, kind_words, number_part, repeated, short_line, shortened, snoop_words};
+ghost use Rattle.ace_before.specs.Words.{called, kind_words, number_part, short_line, since_part, snoop_words, written_part};
 
 use crate::before::SnoopBefore;
 use ace_event::Line;
+use ace_event_words::push_folded;
 use ace_io::NoMemory;
-use ace_malformed::push;
+use ace_malformed::{push, push_number};
 use ace_model::Transaction;
 use ace_model::kinds::{read_kind, write_kind};
 use ace_words::{read_word, write_word};
@@ -22,64 +22,14 @@ fn behind(digits: &[u8], start: usize) -> &[u8]
     &digits[start..]
 }
 
-/// So many digits.
-fn front(digits: &[u8], end: usize) -> &[u8]
-    requires { end ≤ length digits.now }
-    ensures { result.now ≡ take end digits.now }
-{
-    &digits[..end]
-}
-
-/// The 128 digits are those of a line whose bytes are all the same.
-fn is_repeated(digits: &[u8]) -> bool
-    requires { length digits.now ≡ 128 }
-    ensures { result ≡ is_repeated digits.now }
-{
-    behind(digits, 2) == front(digits, 126)
-}
-
-/// Adds the byte of a line whose bytes are all the same.
-#[tactic(auto, unfolding(crate::specs::Words::repeated))]
-fn push_repeated(text: &mut Vec<u8>, digits: &[u8]) -> Result<(), NoMemory>
-    requires { length digits.now ≡ 128 }
-    ensures { OnOk result (text.new.items ≡ text.old.items ++ repeated digits.now) }
-{
-    push(text, front(digits, 2))?;
-    push(text, b" x 64")
-}
-
-/// Adds the first eight bytes of a line and the last four.
-#[tactic(auto, unfolding(crate::specs::Words::ends))]
-fn push_ends(text: &mut Vec<u8>, digits: &[u8]) -> Result<(), NoMemory>
-    requires { length digits.now ≡ 128 }
-    ensures { OnOk result (text.new.items ≡ text.old.items ++ ends digits.now) }
-{
-    push(text, front(digits, 16))?;
-    push(text, b"..")?;
-    push(text, behind(digits, 120))
-}
-
-/// Adds the 128 digits of a line, shortened.
-#[tactic(auto, unfolding(crate::specs::Words::shortened))]
-fn push_shortened(text: &mut Vec<u8>, digits: &[u8]) -> Result<(), NoMemory>
-    requires { length digits.now ≡ 128 }
-    ensures { OnOk result (text.new.items ≡ text.old.items ++ shortened digits.now) }
-{
-    if is_repeated(digits) {
-        push_repeated(text, digits)
-    } else {
-        push_ends(text, digits)
-    }
-}
-
-/// Adds the data of a line, shortened.
+/// Adds the data of a line, folded.
 #[tactic(auto, unfolding(crate::specs::Words::short_line))]
 pub(crate) fn push_short_line(text: &mut Vec<u8>, line: &Line) -> Result<(), NoMemory>
     ensures { OnOk result (text.new.items ≡ text.old.items ++ short_line line.now) }
 {
     let mut digits = TextBuf::empty();
     digits.push_line(line);
-    push_shortened(text, behind(digits.bytes(), 1))
+    push_folded(text, behind(digits.bytes(), 1))
 }
 
 /// Adds the number of an event that has so many events before it.
@@ -90,6 +40,31 @@ fn push_number_part(text: &mut Vec<u8>, place: usize) -> Result<(), NoMemory>
     let mut digits = Buffer::new();
     push(text, b" (event ")?;
     push(text, digits.format(place as u128 + 1).as_bytes())?;
+    push(text, b")")
+}
+
+/// Adds since which event something is so.
+#[tactic(auto, unfolding(crate::specs::Words::since_part))]
+pub(crate) fn push_since(text: &mut Vec<u8>, number: u64) -> Result<(), NoMemory>
+    ensures { OnOk result (text.new.items ≡ text.old.items ++ since_part number) }
+{
+    if number == 0 {
+        return Ok(());
+    }
+    push(text, b" since event ")?;
+    push_number(text, number)
+}
+
+/// Adds the event that wrote memory.
+#[tactic(auto, unfolding(crate::specs::Words::written_part))]
+pub(crate) fn push_written(text: &mut Vec<u8>, number: u64) -> Result<(), NoMemory>
+    ensures { OnOk result (text.new.items ≡ text.old.items ++ written_part number) }
+{
+    if number == 0 {
+        return push(text, b" (never written)");
+    }
+    push(text, b" (event ")?;
+    push_number(text, number)?;
     push(text, b")")
 }
 

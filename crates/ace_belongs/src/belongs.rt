@@ -66,7 +66,7 @@ fn line_of_snoop(snoop: Option<&Snoop>) -> Option<u32>
 }
 
 /// The line that the event names, or that what it belongs to names.
-pub(crate) fn event_line(ports: &PortCheck, event: &Event) -> Option<u32>
+pub fn event_line(ports: &PortCheck, event: &Event) -> Option<u32>
     ensures { (r : Recording) → Stands ports.now r
         → result ≡ event_line r.header r.past event.now }
 {

@@ -5,4 +5,5 @@
 mod belongs;
 mod next;
 
+pub use belongs::event_line;
 pub use next::{next_line, next_number, next_serves};

@@ -1,13 +1,12 @@
 -- One element, and the others; and what a text has got with it.
-use Rattle.std.proofs.Common.{◌≡◌, ℕ, ◌+◌, ◌-◌, ◌<◌, ◌≤◌, ◌++◌, suc, false, List, [], drop, get_or, length, refl, arith}
-use Rattle.std.specs.List.{AllByRecursion}
+use Rattle.std.proofs.Common.{◌≡◌, ℕ, ◌+◌, ◌-◌, ◌<◌, ◌≤◌, ◌++◌, suc, List, [], Option, drop, get_or, length, refl, arith}
 use Rattle.std.proofs.lemmas.Grind.{common_steps}
 use Rattle.std.proofs.lemmas.List.{at_drop_more, drop_all}
 use Rattle.ace_codes.specs.declared.state.LineState.{LineState}
 use Rattle.ace_event.specs.declared.header.Header.{Header}
 use Rattle.ace_chart.specs.Cells.{look_cells, rows_cells, state_cell, state_cells}
 use Rattle.ace_chart.specs.Lifelines.{port_head, port_lifelines}
-use Rattle.ace_chart.specs.Marks.{row_text, rows_text}
+use Rattle.ace_chart.specs.Marks.{event_text, rows_text}
 use Rattle.ace_chart.specs.declared.rows.Row.{Row}
 
 pub states_step : (ports row : ℕ) (states : List LineState) (i : ℕ) (d : LineState) → i < length states
@@ -30,15 +29,15 @@ pub cells_end : (ports : ℕ) (rows : List Row) (i : ℕ) → length rows ≤ i 
 unfolding rows_cells
 cells_end ports rows i past = rw (drop_all i rows past) refl
 
-pub rows_step : (ports : ℕ) (rows : List Row) (i : ℕ) (d : Row) → i < length rows
-    → rows_text ports i (drop i rows)
-    ≡ row_text ports i false (get_or rows i d) ++ rows_text ports (i + 1) (drop (i + 1) rows)
+pub rows_step : (ports : ℕ) (stop : Option Row) (rows : List Row) (i : ℕ) (d : Row) → i < length rows
+    → rows_text ports stop i (drop i rows)
+    ≡ event_text ports stop i (get_or rows i d) ++ rows_text ports stop (i + 1) (drop (i + 1) rows)
 unfolding rows_text
-rows_step ports rows i d within = rw (at_drop_more (rows_text ports i) rows i d within) refl
+rows_step ports stop rows i d within = rw (at_drop_more (rows_text ports stop i) rows i d within) refl
 
-pub rows_end : (ports : ℕ) (rows : List Row) (i : ℕ) → length rows ≤ i → rows_text ports i (drop i rows) ≡ []
+pub rows_end : (ports : ℕ) (stop : Option Row) (rows : List Row) (i : ℕ) → length rows ≤ i → rows_text ports stop i (drop i rows) ≡ []
 unfolding rows_text
-rows_end ports rows i past = rw (drop_all i rows past) refl
+rows_end ports stop rows i past = rw (drop_all i rows past) refl
 
 -- the lifelines from one port on
 ports_more : (h : Header) (bottom p count : ℕ)
@@ -75,15 +74,15 @@ pub cells_done : (ports : ℕ) (rows : List Row) (i : ℕ) (before whole : List 
     → before ++ rows_cells ports i (drop i rows) ≡ whole → before ≡ whole
 cells_done ports rows i before whole past so_far = grind (arith, common_steps, so_far, cells_end ports rows i past)
 
-pub rows_next : (ports : ℕ) (rows : List Row) (i : ℕ) (d : Row) (before new whole : List ℕ) → i < length rows
-    → before ++ rows_text ports i (drop i rows) ≡ whole → new ≡ before ++ row_text ports i false (get_or rows i d)
-    → new ++ rows_text ports (i + 1) (drop (i + 1) rows) ≡ whole
-rows_next ports rows i d before new whole within so_far added =
-    grind (arith, common_steps, so_far, added, rows_step ports rows i d within)
+pub rows_next : (ports : ℕ) (stop : Option Row) (rows : List Row) (i : ℕ) (d : Row) (before new whole : List ℕ) → i < length rows
+    → before ++ rows_text ports stop i (drop i rows) ≡ whole → new ≡ before ++ event_text ports stop i (get_or rows i d)
+    → new ++ rows_text ports stop (i + 1) (drop (i + 1) rows) ≡ whole
+rows_next ports stop rows i d before new whole within so_far added =
+    grind (arith, common_steps, so_far, added, rows_step ports stop rows i d within)
 
-pub rows_done : (ports : ℕ) (rows : List Row) (i : ℕ) (before whole : List ℕ) → length rows ≤ i
-    → before ++ rows_text ports i (drop i rows) ≡ whole → before ≡ whole
-rows_done ports rows i before whole past so_far = grind (arith, common_steps, so_far, rows_end ports rows i past)
+pub rows_done : (ports : ℕ) (stop : Option Row) (rows : List Row) (i : ℕ) (before whole : List ℕ) → length rows ≤ i
+    → before ++ rows_text ports stop i (drop i rows) ≡ whole → before ≡ whole
+rows_done ports stop rows i before whole past so_far = grind (arith, common_steps, so_far, rows_end ports stop rows i past)
 
 pub ports_next : (h : Header) (bottom p : ℕ) (before new whole : List ℕ) → p < h.ports
     → before ++ port_lifelines h bottom p (h.ports - p) ≡ whole → new ≡ before ++ port_head h bottom p

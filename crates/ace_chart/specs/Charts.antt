@@ -1,12 +1,12 @@
 -- The text of a chart.
-use Rattle.std.specs.Prelude.{ℕ, ◌+◌, ◌≤◌, ◌++◌, if◌then◌else◌, List, [], codes, decimal, length, is_none, is_some}
+use Rattle.std.specs.Prelude.{ℕ, ◌+◌, ◌≤◌, ◌++◌, ◌==◌, if◌then◌else◌, List, [], codes, decimal, length, is_none, is_some}
 use Rattle.std.specs.List.{AllByRecursion}
 use Rattle.ace_svg.specs.Elements.{rectangle, words_element}
 use Rattle.ace_svg.specs.declared.geometry.Size.{Size}
 use Rattle.ace_chart.specs.Cells.{last_cells, rows_cells}
 use Rattle.ace_chart.specs.Legend.{legend}
 use Rattle.ace_chart.specs.Lifelines.{lifelines}
-use Rattle.ace_chart.specs.Marks.{IsNumbered, IsStopNumbered, band, rows_text, stop_text}
+use Rattle.ace_chart.specs.Marks.{IsNumbered, IsStopNumbered, band, gap_text, rows_text, stop_text}
 use Rattle.ace_chart.specs.Places.{height, width, y_of}
 use Rattle.ace_chart.specs.Styles.{styles}
 use Rattle.ace_chart.specs.declared.rows.Chart.{Chart}
@@ -30,7 +30,8 @@ view_box size = opening_start ++ decimal size.width ++ codes " " ++ decimal size
 
 unfoldable pub opening : Size → List ℕ
 opening size =
-    view_box size ++ codes "\" width=\"" ++ decimal size.width ++ codes "\" height=\"" ++ decimal size.height ++ codes "\">\n"
+    view_box size ++ codes "\" width=\"" ++ decimal size.width ++ codes "\" height=\""
+    ++ decimal size.height ++ codes "\">\n"
 
 -- of so many ports and rows
 unfoldable pub page : ℕ → ℕ → List ℕ
@@ -44,33 +45,57 @@ heading name verdict =
     words_element (codes "heading") (record { x = 16; y = 28 }) name
     ++ words_element (codes "verdict") (record { x = 16; y = 50 }) verdict
 
--- below so many rows: what is wrong, where the rule is kept, and the legend
-unfoldable pub foot : ℕ → List ℕ → List ℕ → List ℕ
-foot rows wrong kept =
-    words_element (codes "wrong") (record { x = 16; y = y_of rows + 36 }) wrong
-    ++ words_element (codes "verdict") (record { x = 16; y = y_of rows + 56 }) kept ++ legend (y_of rows + 96)
+-- a value under its name
+unfoldable pub value_line : ℕ → List ℕ → List ℕ → List ℕ
+value_line y name value =
+    words_element (codes "value") (record { x = 16; y = y }) name
+    ++ words_element (codes "value") (record { x = 84; y = y }) value
+
+-- what a clause expects and what it got, if it expects a value
+unfoldable pub values : ℕ → List ℕ → List ℕ → List ℕ
+values y expected got =
+    if length expected == 0 then []
+    else value_line y (codes "expected") expected ++ value_line (y + 16) (codes "got") got
+
+-- what is wrong, and where the rule is kept
+unfoldable pub wrong_lines : ℕ → List ℕ → List ℕ → List ℕ
+wrong_lines y wrong kept =
+    words_element (codes "wrong") (record { x = 16; y = y }) wrong
+    ++ words_element (codes "verdict") (record { x = 16; y = y + 20 }) kept
+
+-- below so many rows: these, and the legend
+unfoldable pub foot : ℕ → List ℕ → List ℕ → List ℕ → List ℕ → List ℕ
+foot rows wrong kept expected got =
+    wrong_lines (y_of rows + 36) wrong kept ++ values (y_of rows + 76) expected got
+    ++ legend (y_of rows + 126)
 
 -- what is behind the events: the page, the heading and the lifelines
 unfoldable pub frame : Chart → List ℕ → List ℕ → List ℕ
 frame c name verdict =
-    page c.header.ports (count_of c) ++ heading name verdict ++ lifelines c.header (y_of (count_of c))
+    page c.header.ports (count_of c) ++ heading name verdict
+    ++ lifelines c.header (y_of (count_of c))
 
 -- the bars of the line, if there is one
 unfoldable pub line_bars : Chart → List ℕ
 line_bars c =
     if is_none c.line then []
-    else rows_cells c.header.ports 0 c.rows.items ++ last_cells c.header.ports (length c.rows.items) c.stop c.last
+    else rows_cells c.header.ports 0 c.rows.items
+    ++ last_cells c.header.ports (length c.rows.items) c.stop c.last
 
 -- the band of the event that breaks a rule, if there is one
 unfoldable pub bands : Chart → List ℕ
 bands c = if is_none c.stop then [] else band c.header.ports (length c.rows.items)
 
--- the events
+-- the events, and what is left out between them
 unfoldable pub events : Chart → List ℕ
 events c =
-    rows_text c.header.ports 0 c.rows.items ++ stop_text c.header.ports (length c.rows.items) c.stop
+    rows_text c.header.ports c.stop 0 c.rows.items
+    ++ gap_text c.header.ports (length c.rows.items) c.left_out
+    ++ stop_text c.header.ports (length c.rows.items) c.stop
 
--- the chart under the name of its trace and the verdict on it, with what is wrong and where the rule is kept
-unfoldable pub chart_text : Chart → List ℕ → List ℕ → List ℕ → List ℕ → List ℕ
-chart_text c name verdict wrong kept =
-    frame c name verdict ++ bands c ++ line_bars c ++ events c ++ foot (count_of c) wrong kept ++ codes "</svg>\n"
+-- the chart under the name of its trace and the verdict on it, with what is wrong, where the rule
+-- is kept, and what it expects and got
+unfoldable pub chart_text : Chart → List ℕ → List ℕ → List ℕ → List ℕ → List ℕ → List ℕ → List ℕ
+chart_text c name verdict wrong kept expected got =
+    frame c name verdict ++ bands c ++ line_bars c ++ events c
+    ++ foot (count_of c) wrong kept expected got ++ codes "</svg>\n"

@@ -16,7 +16,8 @@ low_word resp =
     else (if low_bits resp == 1 then codes " EXOKAY"
     else (if low_bits resp == 2 then codes " SLVERR" else codes " DECERR"))
 
--- a record and what it is about; and whether that is exclusive; and the state in which it leaves the line
+-- a record and what it is about; and whether that is exclusive; and the state in which it leaves
+-- the line
 unfoldable pub named : List ℕ → List ℕ → List ℕ
 named event_record words = event_record ++ codes " " ++ words
 
@@ -40,12 +41,15 @@ resp_words words resp =
 unfoldable pub answer_words : ℕ → LineState → List ℕ
 answer_words resp st =
     named (codes "CR") (state_text st) ++ bit_word (transfers_data resp) (codes " data")
-    ++ bit_word (has_error resp) (codes " error") ++ bit_word (passes_dirty resp) (codes " PassDirty")
-    ++ bit_word (is_shared resp) (codes " IsShared") ++ bit_word (was_unique resp) (codes " WasUnique")
+    ++ bit_word (has_error resp) (codes " error")
+    ++ bit_word (passes_dirty resp) (codes " PassDirty")
+    ++ bit_word (is_shared resp) (codes " IsShared")
+    ++ bit_word (was_unique resp) (codes " WasUnique")
 
 -- the label of an event that belongs to the transaction, if it belongs to one
 abbrev pub label : Option Transaction → Event → List ℕ
-label serves (Ar p id addr snoop dom bar lock) = with_lock (codes "AR") (read_words snoop dom bar) lock
+label serves (Ar p id addr snoop dom bar lock) =
+    with_lock (codes "AR") (read_words snoop dom bar) lock
 label serves (R p id resp last word) = resp_words (served_words serves) resp
 label serves (Rk p st) = with_state (codes "RK") (served_words serves) st
 label serves (Aw p id addr snoop dom bar) = named (codes "AW") (write_words snoop dom bar)

@@ -16,21 +16,25 @@ bar_sample class x y width words =
 -- the arrows of addresses and data, those of snoops, and the others
 unfoldable pub address_legend : ℕ → List ℕ
 address_legend y =
-    message_sample (codes "address") 16 y (codes "address AR AW") ++ message_sample (codes "data") 144 y (codes "data R W CD")
+    message_sample (codes "address") 16 y (codes "address AR AW")
+    ++ message_sample (codes "data") 144 y (codes "data R W CD")
 
 unfoldable pub snoop_legend : ℕ → List ℕ
 snoop_legend y = message_sample (codes "snoop") 256 y (codes "snoop AC CR")
 
 unfoldable pub answer_legend : ℕ → List ℕ
 answer_legend y =
-    message_sample (codes "response") 372 y (codes "response B RK WK") ++ message_sample (codes "memory") 512 y (codes "memory M")
+    message_sample (codes "response") 372 y (codes "response B RK WK")
+    ++ message_sample (codes "memory") 512 y (codes "memory M")
 
 -- the bars
 unfoldable pub bar_legend : ℕ → List ℕ
 bar_legend y =
     bar_sample (codes "UC") 16 y 18 (codes "UC") ++ bar_sample (codes "UD") 80 y 18 (codes "UD")
-    ++ bar_sample (codes "SC") 148 y 10 (codes "SC") ++ bar_sample (codes "SD") 208 y 10 (codes "SD")
-    ++ bar_sample (codes "grant") 268 y 18 (codes "grant") ++ bar_sample (codes "current") 344 y 8 (codes "memory current")
+    ++ bar_sample (codes "SC") 148 y 10 (codes "SC")
+    ++ bar_sample (codes "SD") 208 y 10 (codes "SD")
+    ++ bar_sample (codes "grant") 268 y 18 (codes "grant")
+    ++ bar_sample (codes "current") 344 y 8 (codes "memory current")
     ++ bar_sample (codes "behind") 472 y 8 (codes "memory maybe behind")
 
 unfoldable pub legend : ℕ → List ℕ

@@ -5,4 +5,5 @@ pub mod Legend
 pub mod Lifelines
 pub mod Marks
 pub mod Places
+pub mod Reasons
 pub mod Styles

@@ -15,7 +15,8 @@ kind_word h p = if is_ace h p then codes "ACE" else codes "ACE-Lite"
 unfoldable pub lifeline : ℕ → ℕ → List ℕ → List ℕ → List ℕ
 lifeline x bottom name kind =
     line_element (codes "lifeline") (record { x = x; y = 106 }) (record { x = x; y = bottom })
-    ++ rectangle (codes "head") (record { x = x - 52; y = 72 }) (record { width = 104; height = 34 })
+    ++ rectangle (codes "head") (record { x = x - 52; y = 72 })
+    (record { width = 104; height = 34 })
     ++ words_element (codes "name") (record { x = x; y = 87 }) name
     ++ words_element (codes "kind") (record { x = x; y = 100 }) kind
 
@@ -25,10 +26,12 @@ port_head h bottom p = lifeline (x_of h.ports (Port p)) bottom (port_words p) (k
 -- those of so many ports, from one on
 unfoldable pub port_lifelines : Header → ℕ → ℕ → ℕ → List ℕ
 port_lifelines h bottom p zero = []
-port_lifelines h bottom p (suc count) = port_head h bottom p ++ port_lifelines h bottom (p + 1) count
+port_lifelines h bottom p (suc count) =
+    port_head h bottom p ++ port_lifelines h bottom (p + 1) count
 
 -- those of the ports, of the interconnect and of memory
 unfoldable pub lifelines : Header → ℕ → List ℕ
 lifelines h bottom =
-    port_lifelines h bottom 0 h.ports ++ lifeline (x_of h.ports Interconnect) bottom (codes "interconnect") []
+    port_lifelines h bottom 0 h.ports
+    ++ lifeline (x_of h.ports Interconnect) bottom (codes "interconnect") []
     ++ lifeline (x_of h.ports Memory) bottom (codes "memory") []

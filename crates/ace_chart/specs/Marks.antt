@@ -1,11 +1,12 @@
 -- The events of a chart: arrows and steps, with their numbers and labels.
-use Rattle.std.specs.Prelude.{ℕ, ⊤, ◌≤◌, ◌+◌, ◌-◌, ◌++◌, Bool, true, false, if◌then◌else◌, List, [], ◌∷◌, Option, Some, None, codes, decimal}
+use Rattle.std.specs.Prelude.{ℕ, ⊤, ◌≤◌, ◌+◌, ◌-◌, ◌++◌, ◌==◌, Bool, true, false, if◌then◌else◌, List, [], ◌∷◌, Option, Some, None, codes, decimal}
 use Rattle.ace_event.specs.declared.event.Event.{Event}
 use Rattle.ace_event.specs.declared.event.Event.TheVariants.{Ar, R, Rk, Aw, W, B, Wk, Ac, Cr, Cd, G, M, S, L, D, Op, Mem}
 use Rattle.ace_svg.specs.Elements.{line_element, rectangle, title, words_element}
 use Rattle.ace_svg.specs.declared.geometry.Point.{Point}
 use Rattle.ace_chart.specs.Labels.{label}
 use Rattle.ace_chart.specs.Places.{far_x, lane_x, near_x, width, x_of, y_of}
+use Rattle.ace_chart.specs.Reasons.{reason_text}
 use Rattle.ace_chart.specs.declared.marks.Mark.{Mark}
 use Rattle.ace_chart.specs.declared.marks.Mark.TheVariants.{Sent, Received, Step}
 use Rattle.ace_chart.specs.declared.marks.Style.{Style}
@@ -79,11 +80,14 @@ mark_text ports row stop (Step at s) words = step ports row stop at s words
 
 -- the number of an event, and the line of the trace that it is: the lines of the header are 1 and 2
 unfoldable pub number_words : ℕ → List ℕ
-number_words number = codes "event " ++ decimal number ++ codes ", line " ++ decimal (number + 2) ++ codes " of the trace"
+number_words number =
+    codes "event " ++ decimal number ++ codes ", line " ++ decimal (number + 2)
+    ++ codes " of the trace"
 
 -- the number at the left
 unfoldable pub number_text : ℕ → ℕ → List ℕ
-number_text row number = words_element (codes "number") (record { x = 96; y = y_of row + 4 }) (decimal number)
+number_text row number =
+    words_element (codes "number") (record { x = 96; y = y_of row + 4 }) (decimal number)
 
 -- an event: its title, its number at the left, and its mark
 unfoldable pub row_text : ℕ → ℕ → Bool → Row → List ℕ
@@ -92,15 +96,38 @@ row_text ports row stop r =
     ++ number_text row r.number
     ++ mark_text ports row stop (mark_of r.event) (label r.serves r.event) ++ codes "</g>\n"
 
+-- what is told of events that are left out
+unfoldable pub left_out_words : ℕ → List ℕ
+left_out_words count = decimal count ++ codes " left out"
+
+-- a dotted rule above a row, with the number of events that are left out there
+unfoldable pub gap : ℕ → ℕ → ℕ → List ℕ
+gap ports row count =
+    line_element (codes "gap") (record { x = 16; y = y_of row - 19 })
+    (record { x = width ports - 16; y = y_of row - 19 })
+    ++ words_element (codes "gap") (record { x = 16; y = y_of row - 9 }) (left_out_words count)
+
+-- the same where any are
+unfoldable pub gap_text : ℕ → ℕ → ℕ → List ℕ
+gap_text ports row count = if count == 0 then [] else gap ports row count
+
+-- an event, below what is left out before it, and why it is marked, where an event that breaks a
+-- rule is drawn
+unfoldable pub event_text : ℕ → Option Row → ℕ → Row → List ℕ
+event_text ports stop row r =
+    gap_text ports row r.left_out ++ row_text ports row false r ++ reason_text ports row stop r
+
 -- the events, from a row on
-unfoldable pub rows_text : ℕ → ℕ → List Row → List ℕ
-rows_text ports row [] = []
-rows_text ports row (r ∷ rows) = row_text ports row false r ++ rows_text ports (row + 1) rows
+unfoldable pub rows_text : ℕ → Option Row → ℕ → List Row → List ℕ
+rows_text ports stop row [] = []
+rows_text ports stop row (r ∷ rows) =
+    event_text ports stop row r ++ rows_text ports stop (row + 1) rows
 
 -- the event that breaks a rule, on a band
 unfoldable pub band : ℕ → ℕ → List ℕ
 band ports row =
-    rectangle (codes "band") (record { x = 8; y = y_of row - 18 }) (record { width = width ports - 16; height = 30 })
+    rectangle (codes "band") (record { x = 8; y = y_of row - 18 })
+    (record { width = width ports - 16; height = 30 })
 
 unfoldable pub stop_text : ℕ → ℕ → Option Row → List ℕ
 stop_text ports row None = []

@@ -1,11 +1,11 @@
--- How the classes of a chart look: the colours are those of Okabe and Ito, some darker for print, and each is told again by a dash, a
--- width or words.
+-- How the classes of a chart look: the colours are those of Okabe and Ito, some darker for print,
+-- and each is told again by a dash, a width or words.
 use Rattle.std.specs.Prelude.{ℕ, ◌++◌, List, codes}
 
 -- how words look
 unfoldable pub text_styles : List ℕ
 text_styles =
-    codes "<style>\ntext{font:12px DejaVu Sans,Helvetica,Arial,sans-serif;fill:#1a1a1a}\ntext.heading{font-size:16px;font-weight:bold}\ntext.verdict,text.kind{fill:#595959}\ntext.name,text.kind,text.state,text.label,text.stop-label{text-anchor:middle}\ntext.name,text.state,text.wrong{font-weight:bold}\ntext.kind,text.sample{font-size:10px}\ntext.number{font:10.5px DejaVu Sans Mono,monospace;fill:#595959;text-anchor:end}\ntext.state{font-size:8.5px;stroke:#fff;stroke-width:2;paint-order:stroke}\ntext.label,text.stop-label,text.beside,text.stop-beside{font-size:11px;stroke:#fff;stroke-width:3;paint-order:stroke}\ntext.stop-label,text.stop-beside,text.wrong{fill:#b00020}\n"
+    codes "<style>\ntext{font:12px DejaVu Sans,Helvetica,Arial,sans-serif;fill:#1a1a1a}\ntext.heading{font-size:16px;font-weight:bold}\ntext.verdict,text.kind{fill:#595959}\ntext.name,text.kind,text.state,text.label,text.stop-label{text-anchor:middle}\ntext.name,text.state,text.wrong{font-weight:bold}\ntext.kind,text.sample{font-size:10px}\ntext.number{font:10.5px DejaVu Sans Mono,monospace;fill:#595959;text-anchor:end}\ntext.state{font-size:8.5px;stroke:#fff;stroke-width:2;paint-order:stroke}\ntext.label,text.stop-label,text.beside,text.stop-beside{font-size:11px;stroke:#fff;stroke-width:3;paint-order:stroke}\ntext.stop-label,text.stop-beside,text.wrong{fill:#b00020}\ntext.gap{font-size:9px;fill:#595959}\ntext.value{font:10px DejaVu Sans Mono,monospace}\ntext.reason{font-size:10px;fill:#b00020;text-anchor:end;stroke:#fff;stroke-width:3;paint-order:stroke}\n"
 
 -- how bars, bands and squares look
 unfoldable pub bar_styles : List ℕ
@@ -15,7 +15,7 @@ bar_styles =
 -- how arrows look
 unfoldable pub message_styles : List ℕ
 message_styles =
-    codes "line.address{stroke:#0072b2;stroke-width:1.8;marker-end:url(#address)}\nline.data{stroke:#007a5a;stroke-width:3;marker-end:url(#data)}\nline.snoop{stroke:#8a3a8a;stroke-width:1.8;stroke-dasharray:2 2.5;marker-end:url(#snoop)}\nline.response{stroke:#4d4d4d;stroke-width:1.3;stroke-dasharray:6 3;marker-end:url(#response)}\nline.memory{stroke:#5a3e00;stroke-width:3;stroke-dasharray:9 2;marker-end:url(#memory)}\nline.stop{stroke:#b00020;stroke-width:2.6;marker-end:url(#stop)}\nrect.memory{fill:#5a3e00}\nrect.stop{fill:#b00020}\n</style>\n"
+    codes "line.address{stroke:#0072b2;stroke-width:1.8;marker-end:url(#address)}\nline.data{stroke:#007a5a;stroke-width:3;marker-end:url(#data)}\nline.snoop{stroke:#8a3a8a;stroke-width:1.8;stroke-dasharray:2 2.5;marker-end:url(#snoop)}\nline.response{stroke:#4d4d4d;stroke-width:1.3;stroke-dasharray:6 3;marker-end:url(#response)}\nline.memory{stroke:#5a3e00;stroke-width:3;stroke-dasharray:9 2;marker-end:url(#memory)}\nline.stop{stroke:#b00020;stroke-width:2.6;marker-end:url(#stop)}\nline.gap{stroke:#8c8c8c;stroke-dasharray:2 4}\nline.reason{marker-end:url(#stop)}\nrect.memory{fill:#5a3e00}\nrect.stop{fill:#b00020}\n</style>\n"
 
 -- the size of the head of an arrow, between its name and its colour
 unfoldable pub head_size : List ℕ
@@ -48,15 +48,19 @@ head class colour = head_start ++ class ++ head_size ++ colour ++ head_end
 
 unfoldable pub heads : List ℕ
 heads =
-    head (codes "address") (codes "#0072b2") ++ head (codes "data") (codes "#007a5a") ++ head (codes "snoop") (codes "#8a3a8a")
-    ++ head (codes "response") (codes "#4d4d4d") ++ head (codes "memory") (codes "#5a3e00") ++ head (codes "stop") (codes "#b00020")
+    head (codes "address") (codes "#0072b2") ++ head (codes "data") (codes "#007a5a")
+    ++ head (codes "snoop") (codes "#8a3a8a")
+    ++ head (codes "response") (codes "#4d4d4d") ++ head (codes "memory") (codes "#5a3e00")
+    ++ head (codes "stop") (codes "#b00020")
 
 -- the hatch of a class, by the colour behind it
 unfoldable pub hatch : List ℕ → List ℕ → List ℕ
 hatch class colour = hatch_start ++ class ++ hatch_size ++ colour ++ hatch_lines
 
 unfoldable pub hatches : List ℕ
-hatches = hatch (codes "UD") (codes "#e69f00") ++ hatch (codes "SD") (codes "#f6d79b") ++ hatch (codes "behind") (codes "#fff")
+hatches =
+    hatch (codes "UD") (codes "#e69f00") ++ hatch (codes "SD") (codes "#f6d79b")
+    ++ hatch (codes "behind") (codes "#fff")
 
 unfoldable pub styles : List ℕ
 styles = text_styles ++ bar_styles ++ message_styles ++ heads ++ hatches

@@ -1,5 +1,5 @@
-// The bars of a chart: the states of the line, its grant, and whether memory is behind. Each row has
-// its part of them, which ends at its event.
+// The bars of a chart: the states of the line, its grant, and whether memory is behind. Each row
+// has its part of them, which ends at its event.
 ghost use Rattle.std.specs.Prelude.{◌≡◌, ◌≤◌, ◌++◌, ◌+◌, OnOk, codes, length};
 ghost use Rattle.ace_chart.specs.Cells.{bar, behind_cell, grant_cell, grant_title, granted_to, half_width, has_the_line, last_cells, look_cells, memory_class, memory_words, rows_cells, state_cell, state_cells, state_title};
 

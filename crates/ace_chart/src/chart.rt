@@ -4,9 +4,9 @@ ghost use Rattle.std.specs.List.{AllByRecursion};
 ghost use Rattle.ace_chart.specs.Charts.{IsDrawable, bands, chart_text, count_of, events, frame, line_bars};
 
 use crate::cells::{push_cells, push_last};
-use crate::frame::{push_foot, push_heading, push_page};
+use crate::frame::{Below, push_foot, push_heading, push_page};
 use crate::lifelines::push_lifelines;
-use crate::marks::{push_band, push_rows, push_stop};
+use crate::marks::{push_band, push_gap, push_rows, push_stop};
 use crate::places::y_of;
 use crate::rows::Chart;
 use ace_io::NoMemory;
@@ -68,15 +68,17 @@ fn push_bands(text: &mut Vec<u8>, chart: &Chart) -> Result<(), NoMemory>
     push_band(text, chart.header.ports, chart.rows.len() as u64)
 }
 
-/// Adds the events.
+/// Adds the events, and what is left out between them.
 #[tactic(auto, unfolding(crate::specs::Charts::events))]
 fn push_events(alloc: Global, text: &mut Vec<u8>, chart: &Chart) -> Result<(), NoMemory>
     requires { IsDrawable chart.now }
     ensures { OnOk result (text.new.items ≡ text.old.items ++ events chart.now) }
 {
     let ports = chart.header.ports;
-    push_rows(alloc, text, ports, &chart.rows)?;
-    push_stop(alloc, text, ports, chart.rows.len() as u64, &chart.stop)
+    let rows = chart.rows.len() as u64;
+    push_rows(alloc, text, ports, &chart.stop, &chart.rows)?;
+    push_gap(alloc, text, ports, rows, chart.left_out)?;
+    push_stop(alloc, text, ports, rows, &chart.stop)
 }
 
 /// Adds the chart.
@@ -87,23 +89,22 @@ fn push_chart(
     chart: &Chart,
     name: &[u8],
     verdict: &[u8],
-    wrong: &[u8],
-    kept: &[u8],
+    below: &Below<'_>,
 ) -> Result<(), NoMemory>
     requires { IsDrawable chart.now }
-    ensures { OnOk result (text.new.items
-        ≡ text.old.items ++ chart_text chart.now name.now verdict.now wrong.now kept.now) }
+    ensures { OnOk result (text.new.items ≡ text.old.items
+        ++ chart_text chart.now name.now verdict.now below.now.wrong.now below.now.kept.now
+        below.now.expected.now below.now.got.now) }
 {
     push_frame(text, chart, name, verdict)?;
     push_bands(text, chart)?;
     push_line_bars(text, chart)?;
     push_events(alloc, text, chart)?;
-    push_foot(text, count_of(chart), wrong, kept)?;
+    push_foot(text, count_of(chart), below)?;
     push(text, b"</svg>\n")
 }
 
-/// The chart as SVG, under the name of its trace and the verdict on it, with what is wrong and where
-/// the broken rule is kept below it; of a trace that isn't refused these two are empty.
+/// The chart as SVG, under the name of its trace and the verdict on it, with what is told below it.
 ///
 /// # Errors
 ///
@@ -113,14 +114,14 @@ pub fn chart_text(
     chart: &Chart,
     name: &[u8],
     verdict: &[u8],
-    wrong: &[u8],
-    kept: &[u8],
+    below: &Below<'_>,
 ) -> Result<Vec<u8>, NoMemory>
     requires { IsDrawable chart.now }
     ensures { IfOk result (λ text. text.items
-        ≡ chart_text chart.now name.now verdict.now wrong.now kept.now) }
+        ≡ chart_text chart.now name.now verdict.now below.now.wrong.now below.now.kept.now
+        below.now.expected.now below.now.got.now) }
 {
     let mut text = Vec::new(alloc);
-    push_chart(alloc, &mut text, chart, name, verdict, wrong, kept)?;
+    push_chart(alloc, &mut text, chart, name, verdict, below)?;
     Ok(text)
 }

@@ -10,9 +10,12 @@ mod legend;
 mod lifelines;
 mod marks;
 mod places;
+mod reasons;
 mod rows;
 mod styles;
 
 pub use chart::chart_text;
+pub use frame::Below;
 pub use places::{Lifeline, MOST_ROWS};
+pub use reasons::Reason;
 pub use rows::{Chart, Look, Row};

@@ -1,12 +1,13 @@
 // The events of a chart: arrows and steps, with their numbers and labels.
 ghost use Rattle.std.specs.Prelude.{◌≡◌, ◌≤◌, ◌++◌, ◌+◌, IfOk, OnOk, codes, decimal, length};
-ghost use Rattle.ace_chart.specs.Marks.{arrow, band, beside_class, label_class, mark_of, mark_text, message, number_words, number_text, row_text, rows_text, step, stop_text, style_word, IsNumbered, IsStopNumbered};
+ghost use Rattle.ace_chart.specs.Marks.{IsNumbered, IsStopNumbered, arrow, band, beside_class, event_text, gap, gap_text, label_class, left_out_words, mark_of, mark_text, message, number_text, number_words, row_text, rows_text, step, stop_text, style_word};
 ghost use Rattle.ace_chart.specs.Labels.{label};
 ghost use Rattle.ace_svg.specs.Elements.{title};
 ghost use Rattle.std.specs.List.{AllByRecursion};
 
 use crate::labels::label;
 use crate::places::{Lifeline, far_x, lane_x, near_x, width, x_of, y_of};
+use crate::reasons::push_reason;
 use crate::rows::Row;
 use ace_event::Event;
 use ace_io::NoMemory;
@@ -315,19 +316,95 @@ fn push_row(
     push(text, b"</g>\n")
 }
 
+/// The words for events that are left out.
+#[tactic(auto, unfolding(crate::specs::Marks::left_out_words))]
+fn left_out_words(alloc: Global, count: u64) -> Result<Vec<u8>, NoMemory>
+    ensures { IfOk result (λ words. words.items ≡ left_out_words count) }
+{
+    let mut words = Vec::new(alloc);
+    push_number(&mut words, count)?;
+    push(&mut words, b" left out")?;
+    Ok(words)
+}
+
+/// Adds a dotted rule above a row, with the number of events that are left out there.
+#[tactic(auto, unfolding(crate::specs::Marks::gap))]
+fn push_rule(
+    alloc: Global,
+    text: &mut Vec<u8>,
+    ports: u8,
+    row: u64,
+    count: u64,
+) -> Result<(), NoMemory>
+    requires { row ≤ 1000000 }
+    ensures { OnOk result (text.new.items ≡ text.old.items ++ gap ports row count) }
+{
+    let y = y_of(row);
+    let from = Point { x: 16, y: y - 19 };
+    let to = Point {
+        x: width(ports) - 16,
+        y: y - 19,
+    };
+    push_line(text, b"gap", from, to)?;
+    let words = left_out_words(alloc, count)?;
+    push_words(text, b"gap", Point { x: 16, y: y - 9 }, &words)
+}
+
+/// Adds what is left out above a row, if any is.
+#[tactic(auto, unfolding(crate::specs::Marks::gap_text))]
+pub(crate) fn push_gap(
+    alloc: Global,
+    text: &mut Vec<u8>,
+    ports: u8,
+    row: u64,
+    count: u64,
+) -> Result<(), NoMemory>
+    requires { row ≤ 1000000 }
+    ensures { OnOk result (text.new.items ≡ text.old.items ++ gap_text ports row count) }
+{
+    if count == 0 {
+        Ok(())
+    } else {
+        push_rule(alloc, text, ports, row, count)
+    }
+}
+
+/// Adds an event, below what is left out before it, and why it is marked, where an event that
+/// breaks a rule is drawn.
+#[tactic(auto, unfolding(crate::specs::Marks::event_text))]
+fn push_event(
+    alloc: Global,
+    text: &mut Vec<u8>,
+    ports: u8,
+    stop: &Option<Row>,
+    row: u64,
+    drawn: &Row,
+) -> Result<(), NoMemory>
+    requires row { row ≤ 1000000 }
+    requires number { drawn.now.number ≤ 18446744073709551613 }
+    ensures { OnOk result (text.new.items
+        ≡ text.old.items ++ event_text ports stop.now row drawn.now) }
+{
+    push_gap(alloc, text, ports, row, drawn.left_out)?;
+    push_row(alloc, text, ports, row, false, drawn)?;
+    push_reason(text, ports, row, stop, drawn)
+}
+
 /// Adds the events.
 pub(crate) fn push_rows(
     alloc: Global,
     text: &mut Vec<u8>,
     ports: u8,
+    stop: &Option<Row>,
     rows: &[Row],
 ) -> Result<(), NoMemory>
     requires few { length rows.now ≤ 1000000 }
     requires numbers { AllByRecursion IsNumbered rows.now }
-    ensures { OnOk result (text.new.items ≡ text.old.items ++ rows_text ports 0 rows.now) }
+    ensures { OnOk result (text.new.items
+        ≡ text.old.items ++ rows_text ports stop.now 0 rows.now) }
 {
     for (row, drawn) in rows.iter().enumerate() {
-        push_row(alloc, text, ports, row as u64, false, drawn)?;
+        push_event(alloc, text, ports, stop, row as u64, drawn)?;
     }
     Ok(())
 }

@@ -86,5 +86,5 @@ pub(crate) fn height(rows: u64) -> u64
     requires { rows ≤ 1000001 }
     ensures { result ≡ height rows }
 {
-    y_of(rows) + 150
+    y_of(rows) + 180
 }

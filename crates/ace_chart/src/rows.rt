@@ -9,8 +9,8 @@ pub struct Look {
     pub states: [LineState; 32],
     /// The transaction that is granted on the line.
     pub granted: Option<Transaction>,
-    /// What is newer than memory may be elsewhere: a port holds the line dirty, or data were passed,
-    /// or the granted transaction replaces the line or gives up what is newer.
+    /// What is newer than memory may be elsewhere: a port holds the line dirty, or data were
+    /// passed, or the granted transaction replaces the line or gives up what is newer.
     pub behind: bool,
 }
 
@@ -25,6 +25,8 @@ pub struct Row {
     pub serves: Option<Transaction>,
     /// What there was of the line before it.
     pub look: Look,
+    /// How many events of the line are left out between the row before and this one.
+    pub left_out: u64,
 }
 
 /// What is drawn of a trace.
@@ -36,7 +38,9 @@ pub struct Chart {
     pub line: Option<u32>,
     /// The events, in order.
     pub rows: Vec<Row>,
-    /// The event that breaks a rule, behind them.
+    /// How many events of the line are left out behind them.
+    pub left_out: u64,
+    /// The event that breaks a rule, behind all these.
     pub stop: Option<Row>,
     /// The least rule that it breaks, from 1 to 40.
     pub rule: Option<u8>,

@@ -1,5 +1,5 @@
-// How the classes of a chart look: the colours are those of Okabe and Ito, some darker for print, and
-// each is told again by a dash, a width or words.
+// How the classes of a chart look: the colours are those of Okabe and Ito, some darker for print,
+// and each is told again by a dash, a width or words.
 ghost use Rattle.std.specs.Prelude.{◌≡◌, ◌++◌, OnOk, codes};
 ghost use Rattle.ace_chart.specs.Styles.{bar_styles, hatch, hatch_lines, hatch_size, hatch_start, hatches, head, head_end, head_size, head_start, heads, message_styles, styles, text_styles};
 
@@ -21,7 +21,10 @@ text.kind,text.sample{font-size:10px}\n\
 text.number{font:10.5px DejaVu Sans Mono,monospace;fill:#595959;text-anchor:end}\n\
 text.state{font-size:8.5px;stroke:#fff;stroke-width:2;paint-order:stroke}\n\
 text.label,text.stop-label,text.beside,text.stop-beside{font-size:11px;stroke:#fff;stroke-width:3;paint-order:stroke}\n\
-text.stop-label,text.stop-beside,text.wrong{fill:#b00020}\n"
+text.stop-label,text.stop-beside,text.wrong{fill:#b00020}\n\
+text.gap{font-size:9px;fill:#595959}\n\
+text.value{font:10px DejaVu Sans Mono,monospace}\n\
+text.reason{font-size:10px;fill:#b00020;text-anchor:end;stroke:#fff;stroke-width:3;paint-order:stroke}\n"
 }
 
 /// How bars, bands and squares look.
@@ -55,6 +58,8 @@ line.snoop{stroke:#8a3a8a;stroke-width:1.8;stroke-dasharray:2 2.5;marker-end:url
 line.response{stroke:#4d4d4d;stroke-width:1.3;stroke-dasharray:6 3;marker-end:url(#response)}\n\
 line.memory{stroke:#5a3e00;stroke-width:3;stroke-dasharray:9 2;marker-end:url(#memory)}\n\
 line.stop{stroke:#b00020;stroke-width:2.6;marker-end:url(#stop)}\n\
+line.gap{stroke:#8c8c8c;stroke-dasharray:2 4}\n\
+line.reason{marker-end:url(#stop)}\n\
 rect.memory{fill:#5a3e00}\n\
 rect.stop{fill:#b00020}\n\
 </style>\n"

@@ -14,9 +14,11 @@ first_line h (e ∷ past) = newer (first_line h past) (event_line h past e)
 -- of the event that breaks a rule, if one comes after the trace; else the first line
 abbrev pub IsLineAfter : Header → Trace → List Event → Option ℕ → Type 0
 IsLineAfter h past [] line = line ≡ first_line h past
-IsLineAfter h past (e ∷ more) line = (k : ℕ) × (least_broken h past e ≡ Some k) × (line ≡ event_line h past e)
+IsLineAfter h past (e ∷ more) line =
+    (k : ℕ) × (least_broken h past e ≡ Some k) × (line ≡ event_line h past e)
 
--- it is the line of the first of these events, oldest first, that breaks a rule; where none does, the first line
+-- it is the line of the first of these events, oldest first, that breaks a rule; where none does,
+-- the first line
 pub record IsChosen (h : Header) (events : List Event) (line : Option ℕ) : Type 0 where
   pub past : Trace
   pub rest : List Event

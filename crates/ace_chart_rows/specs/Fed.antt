@@ -13,7 +13,8 @@ use Rattle.ace_model.specs.declared.breaks.Break.{Break}
 -- an event more, which breaks no rule; or one that breaks this rule and no lesser one
 abbrev pub HasFed : Header → Trace → Event → Checker → Option ℕ → Type 0
 HasFed h past e c None = StandsWithin (2 ^ 64 - 1) c h (e ∷ past) None
-HasFed h past e c (Some rule) = (b : Break) × StandsWithin (2 ^ 64 - 1) c h past (Some b) × (least_broken h past e ≡ Some rule)
+HasFed h past e c (Some rule) =
+    (b : Break) × StandsWithin (2 ^ 64 - 1) c h past (Some b) × (least_broken h past e ≡ Some rule)
 
 -- the least rule that is broken, if one is
 abbrev pub rule_of : Step → Option ℕ

@@ -3,3 +3,4 @@ pub mod Choice
 pub mod Fed
 pub mod Looks
 pub mod Rows
+pub mod Selected

@@ -16,14 +16,16 @@ use Rattle.ace_tables.specs.States.{is_dirty}
 abbrev pub states_of : Header → Trace → ℕ → List LineState
 states_of h past l = map (λ p. state_of h past p l) (range_with_len 0 32)
 
--- what is newer than memory may be elsewhere: a port has the line dirty, or data were passed, or the granted transaction replaces the line
--- or gives up what is newer
+-- what is newer than memory may be elsewhere: a port has the line dirty, or data were passed, or
+-- the granted transaction replaces the line or gives up what is newer
 abbrev pub is_behind : Header → Trace → ℕ → Bool
 is_behind h past l =
-    list_any is_dirty (states_of h past l) || is_some (passed_data h past l) || is_some_and (granted h past l) may_lose_data
+    list_any is_dirty (states_of h past l) || is_some (passed_data h past l)
+    || is_some_and (granted h past l) may_lose_data
 
 abbrev pub look_of : Header → Trace → ℕ → Look
-look_of h past l = record { states = states_of h past l; granted = granted h past l; behind = is_behind h past l }
+look_of h past l =
+    record { states = states_of h past l; granted = granted h past l; behind = is_behind h past l }
 
 -- where no line is asked for
 abbrev pub no_look : Look

@@ -1,14 +1,16 @@
 // Collects the rows of a chart.
-ghost use Rattle.std.specs.Prelude.{◌≡◌, ◌<◌, ◌≤◌, ◌-◌, ◌^◌, ◌++◌, ◌∷◌, ℕ, [], Option, None, IfOk, OnOk, if◌then◌else◌, length};
+ghost use Rattle.std.specs.Prelude.{◌≡◌, ◌<◌, ◌≤◌, ◌-◌, ◌^◌, ◌++◌, ◌∷◌, ℕ, [], Option, None, IfOk, OnOk, length};
 ghost use Rattle.ace_chart.specs.Charts.{IsDrawable};
-ghost use Rattle.ace_chart_rows.specs.Charts.{HasFollowed, HasHeard, IsChartOf, row_at_end, rule_at_end};
-ghost use Rattle.ace_chart_rows.specs.Rows.{is_asked, row_of, rows_of};
+ghost use Rattle.ace_chart_rows.specs.Charts.{AreDrawn, HasFollowed, HasHeard, IsChartOf, row_at_end, rule_at_end};
+ghost use Rattle.ace_chart_rows.specs.Rows.{is_asked, left_out, left_with, part_at, row_of, rows_with};
+ghost use Rattle.ace_chart_rows.specs.declared.selection.Selection.{Selection as Selected};
 ghost use Rattle.ace_check.specs.Run.{StandsWithin};
 ghost use Rattle.ace_event.specs.Ports.{IsHeader};
 ghost use Rattle.ace_event.specs.declared.header.Header.{Header as Head};
 ghost use Rattle.ace_model.specs.Trace.{Trace};
 ghost use Rattle.ace_model.specs.declared.breaks.Break.{Break};
 
+use crate::selection::{Part, Selection, part_of};
 use crate::told::{feed, look_now};
 use ace_belongs::{next_line, next_number, next_serves};
 use ace_chart::{Chart, Row};
@@ -24,6 +26,14 @@ pub enum ChartErr {
     NoMemory,
     /// It has more rows than it may have.
     TooManyRows,
+}
+
+/// The rows so far.
+#[derive(Drop)]
+struct Collected {
+    rows: Vec<Row>,
+    /// How many events of the line are left out behind them.
+    left_out: u64,
 }
 
 /// An event that breaks a rule.
@@ -45,17 +55,29 @@ fn is_asked(line: Option<u32>, of_event: Option<u32>) -> bool
     }
 }
 
-/// The row of the next event of the trace that the checker stands for.
-fn row_of(checker: &Checker, line: Option<u32>, event: &Event) -> Row
+/// What becomes of the next event of the trace that the checker stands for.
+fn part_at(checker: &Checker, line: Option<u32>, selection: &Selection, event: &Event) -> Part
     ensures { (most : ℕ) (h : Head) (past : Trace) (b : Option Break)
         → StandsWithin most checker.now h past b
-        → result ≡ row_of h past line event.now }
+        → result ≡ part_at h past line selection.now event.now }
+{
+    let asked = is_asked(line, next_line(checker, event));
+    part_of(selection, asked, next_number(checker), event)
+}
+
+/// The row of the next event of the trace that the checker stands for, where so many events are
+/// left out before it.
+fn row_of(checker: &Checker, line: Option<u32>, count: u64, event: &Event) -> Row
+    ensures { (most : ℕ) (h : Head) (past : Trace) (b : Option Break) (s : Selected)
+        → StandsWithin most checker.now h past b → count ≡ left_out h past line s
+        → result ≡ row_of h past line s event.now }
 {
     Row {
         number: next_number(checker),
         event: *event,
         serves: next_serves(checker, event),
         look: look_now(checker, line),
+        left_out: count,
     }
 }
 
@@ -73,67 +95,76 @@ fn push_row(rows: &mut Vec<Row>, most: usize, row: Row) -> Result<(), ChartErr>
     }
 }
 
-/// Adds a row that is asked for.
-fn add_row(
-    rows: &mut Vec<Row>,
-    most: usize,
-    asked: bool,
-    row: Row,
-) -> Result<Option<Stop>, ChartErr>
-    ensures none { IfOk result (λ stop. stop ≡ None) }
-    ensures added { IfOk result (λ _. rows.new.items
-        ≡ (if asked then rows.old.items ++ row ∷ [] else rows.old.items)) }
-    ensures few { length rows.old.items ≤ most
-        → IfOk result (λ _. length rows.new.items ≤ most) }
+/// Adds the row of an event that is drawn, and counts one that is left out.
+fn add_event(collected: &mut Collected, most: usize, part: Part, row: Row) -> Result<(), ChartErr>
+    ensures added { OnOk result (collected.new.rows.items
+        ≡ rows_with collected.old.rows.items row part) }
+    ensures counted { OnOk result (collected.old.left_out < 2 ^ 64 - 1
+        → collected.new.left_out ≡ left_with collected.old.left_out part) }
+    ensures few { length collected.old.rows.items ≤ most
+        → OnOk result (length collected.new.rows.items ≤ most) }
 {
-    if asked {
-        push_row(rows, most, row)?;
+    match part {
+        Part::Drawn => {
+            collected.left_out = 0;
+            push_row(&mut collected.rows, most, row)
+        }
+        Part::LeftOut => {
+            collected.left_out = collected.left_out.saturating_add(1);
+            Ok(())
+        }
+        Part::Elsewhere => Ok(()),
     }
-    Ok(None)
 }
 
-/// Hears the next event of the trace, and adds its row where its line is asked for. An event that
-/// breaks a rule is returned instead.
+/// Hears the next event of the trace, and adds its row where it is selected and of the line. An
+/// event that breaks a rule is returned instead.
 fn hear(
     checker: &mut Checker,
-    rows: &mut Vec<Row>,
+    collected: &mut Collected,
     most: usize,
     line: Option<u32>,
+    selection: &Selection,
     event: &Event,
 ) -> Result<Option<Stop>, ChartErr>
     ensures heard { (h : Head) (past : Trace) → StandsWithin (2 ^ 64 - 1) checker.old h past None
-        → length past < 2 ^ 64 - 2 → rows.old.items ≡ rows_of h past line
-        → IfOk result (HasHeard h past event.now line checker.new rows.new.items) }
-    ensures few { length rows.old.items ≤ most
-        → IfOk result (λ _. length rows.new.items ≤ most) }
+        → length past < 2 ^ 64 - 2 → AreDrawn h past line selection.now collected.old
+        → IfOk result (HasHeard h past event.now line selection.now checker.new collected.new) }
+    ensures few { length collected.old.rows.items ≤ most
+        → IfOk result (λ _. length collected.new.rows.items ≤ most) }
 {
-    let row = row_of(checker, line, event);
-    let asked = is_asked(line, next_line(checker, event));
+    let row = row_of(checker, line, collected.left_out, event);
+    let part = part_at(checker, line, selection, event);
     match feed(checker, event) {
-        Ok(None) => add_row(rows, most, asked, row),
+        Ok(None) => match add_event(collected, most, part, row) {
+            Ok(()) => Ok(None),
+            Err(error) => Err(error),
+        },
         Ok(Some(rule)) => Ok(Some(Stop { row, rule })),
         Err(NoMemory) => Err(ChartErr::NoMemory),
     }
 }
 
-/// Hears the events up to the first that breaks a rule, and adds the rows of those whose line is
-/// asked for. The event that breaks a rule is returned.
+/// Hears the events up to the first that breaks a rule, and adds the rows of those that are
+/// selected and of the line. The event that breaks a rule is returned.
 fn follow(
     checker: &mut Checker,
-    rows: &mut Vec<Row>,
+    collected: &mut Collected,
     most: usize,
     line: Option<u32>,
+    selection: &Selection,
     header: &Header,
     events: &[Event],
 ) -> Result<Option<Stop>, ChartErr>
     requires stands { StandsWithin (2 ^ 64 - 1) checker.old header.now [] None }
-    requires none { rows.old.items ≡ [] }
-    ensures followed { IfOk result (HasFollowed header.now events.now line checker.new
-        rows.new.items) }
-    ensures few { IfOk result (λ _. length rows.new.items ≤ most) }
+    requires none { collected.old.rows.items ≡ [] }
+    requires nothing { collected.old.left_out ≡ 0 }
+    ensures followed { IfOk result (HasFollowed header.now events.now line selection.now
+        checker.new collected.new) }
+    ensures few { IfOk result (λ _. length collected.new.rows.items ≤ most) }
 {
     for event in events {
-        match hear(checker, rows, most, line, event) {
+        match hear(checker, collected, most, line, selection, event) {
             Ok(None) => {}
             Ok(Some(stop)) => return Ok(Some(stop)),
             Err(error) => return Err(error),
@@ -162,8 +193,8 @@ fn rule_at_end(stop: &Option<Stop>) -> Option<u8>
     }
 }
 
-/// The chart of the events of a trace, oldest first, which draws those of the line, or all where
-/// none is asked for: up to the first that breaks a rule, and that one.
+/// The chart of the events of a trace, oldest first, which draws the selected ones of the line, or
+/// of all where none is asked for: up to the first that breaks a rule, and that one.
 ///
 /// # Errors
 ///
@@ -174,23 +205,37 @@ pub fn chart_of(
     header: Header,
     events: &[Event],
     line: Option<u32>,
+    selection: &Selection,
     most: usize,
 ) -> Result<Chart, ChartErr>
     requires header { IsHeader header }
     requires most { most ≤ 1000000 }
-    ensures chart { IfOk result (IsChartOf header events.now line) }
+    ensures chart { IfOk result (IsChartOf header events.now line selection.now) }
     ensures drawable { IfOk result IsDrawable }
 {
     let Ok(mut checker) = Checker::with_lines(alloc, header, usize::MAX) else {
         return Err(ChartErr::NoMemory);
     };
-    let mut rows = Vec::new(alloc);
-    let stop = follow(&mut checker, &mut rows, most, line, &header, events)?;
+    let mut collected = Collected {
+        rows: Vec::new(alloc),
+        left_out: 0,
+    };
+    let stop = follow(
+        &mut checker,
+        &mut collected,
+        most,
+        line,
+        selection,
+        &header,
+        events,
+    )?;
     let last = look_now(&checker, line);
+    let Collected { rows, left_out } = collected;
     Ok(Chart {
         header,
         line,
         rows,
+        left_out,
         stop: row_at_end(&stop),
         rule: rule_at_end(&stop),
         last,

@@ -5,7 +5,9 @@
 mod choose;
 mod collect;
 mod looks;
+mod selection;
 mod told;
 
 pub use choose::chosen_line;
 pub use collect::{ChartErr, chart_of};
+pub use selection::Selection;

@@ -1,7 +1,7 @@
 // What charts draw.
 use crate::traces::{second_barrier, stored, two_grants};
-use ace_chart::{Chart, chart_text};
-use ace_chart_rows::{ChartErr, chart_of, chosen_line};
+use ace_chart::{Below, Chart, chart_text};
+use ace_chart_rows::{ChartErr, Selection, chart_of, chosen_line};
 use ace_codes::LineState;
 use ace_event::{Event, Header};
 use std::alloc::Global;
@@ -27,7 +27,8 @@ fn chooses_lines(rt: HostRuntime) {
     assert!(rt; chosen(rt.alloc(), &[]) == Some(None));
 }
 
-/// The numbers of the rows, up to eight, and of the event that breaks a rule; 0 where there is none.
+/// The numbers of the rows, up to eight, and of the event that breaks a rule; 0 where there is
+/// none.
 fn numbers(chart: &Chart) -> ([u64; 8], u64) {
     let mut numbers = [0; 8];
     for (place, row) in chart.rows.iter().take(8).enumerate() {
@@ -50,7 +51,7 @@ fn drawn(
     if most > 1_000_000 {
         return Err(ChartErr::TooManyRows);
     }
-    let chart = chart_of(alloc, HEADER, events, line, most)?;
+    let chart = chart_of(alloc, HEADER, events, line, &Selection::whole(), most)?;
     Ok(numbers(&chart))
 }
 
@@ -88,7 +89,14 @@ fn bars(chart: &Chart) -> ([LineState; 4], bool, usize) {
 
 #[test]
 fn bars_end_where_states_change(rt: HostRuntime) {
-    let Ok(chart) = chart_of(rt.alloc(), HEADER, &stored(), Some(64), 400) else {
+    let Ok(chart) = chart_of(
+        rt.alloc(),
+        HEADER,
+        &stored(),
+        Some(64),
+        &Selection::whole(),
+        400,
+    ) else {
         assert!(rt; false);
         return;
     };
@@ -98,12 +106,83 @@ fn bars_end_where_states_change(rt: HostRuntime) {
     assert!(rt; told == (wanted, true, 5));
 }
 
+/// For each row of the chart how many events are left out before it, up to eight; 9 behind the
+/// last row; and how many are left out behind them.
+fn gaps(chart: &Chart) -> ([u64; 8], u64) {
+    let mut gaps = [9; 8];
+    for (place, row) in chart.rows.iter().take(8).enumerate() {
+        gaps[place] = row.left_out;
+    }
+    (gaps, chart.left_out)
+}
+
+/// The numbers of the rows of the chart of a line, of these events and ports of it, and how many
+/// events are left out.
+fn selected(
+    alloc: Global,
+    line: Option<u32>,
+    selection: &Selection,
+) -> Result<([u64; 8], [u64; 8], u64), ChartErr> {
+    let chart = chart_of(alloc, HEADER, &stored(), line, selection, 400)?;
+    let numbers = numbers(&chart);
+    let rows = numbers.0;
+    let (gaps, behind) = gaps(&chart);
+    drop(chart);
+    Ok((rows, gaps, behind))
+}
+
+/// The events of these numbers, of port 0 or of port 1 or of all.
+fn events(first: u64, last: u64, port: Option<usize>) -> Selection {
+    let ports = match port {
+        Some(0) => Some(one_port(0)),
+        Some(_) => Some(one_port(1)),
+        None => None,
+    };
+    Selection { first, last, ports }
+}
+
+fn one_port(port: u8) -> [bool; 32] {
+    let mut ports = [false; 32];
+    ports[usize::from(port % 32)] = true;
+    ports
+}
+
+#[test]
+fn draws_selected_events(rt: HostRuntime) {
+    let alloc = rt.alloc();
+    let middle = ([4, 5, 6, 0, 0, 0, 0, 0], [2, 0, 0, 9, 9, 9, 9, 9], 3);
+    let front = ([2, 3, 0, 0, 0, 0, 0, 0], [0, 0, 9, 9, 9, 9, 9, 9], 6);
+    let all = ([2, 3, 4, 5, 6, 7, 8, 9], [1, 0, 0, 0, 0, 0, 0, 0], 0);
+    let none = ([0; 8], [9; 8], 8);
+    assert!(rt; selected(alloc, Some(64), &events(4, 6, None)) == Ok(middle));
+    assert!(rt; selected(alloc, Some(64), &events(0, 3, Some(0))) == Ok(front));
+    assert!(rt; selected(alloc, None, &events(1, 99, Some(0))) == Ok(all));
+    assert!(rt; selected(alloc, Some(64), &events(1, 99, Some(1))) == Ok(none));
+}
+
 /// The text of the chart of the trace, and whether it has these parts.
 fn has(alloc: Global, events: &[Event], line: Option<u32>, parts: &[&[u8]]) -> Result<bool, Fail> {
-    let Ok(chart) = chart_of(alloc, HEADER, events, line, 400) else {
+    has_selected(alloc, events, line, &Selection::whole(), parts)
+}
+
+/// The same of the selected events.
+fn has_selected(
+    alloc: Global,
+    events: &[Event],
+    line: Option<u32>,
+    selection: &Selection,
+    parts: &[&[u8]],
+) -> Result<bool, Fail> {
+    let Ok(chart) = chart_of(alloc, HEADER, events, line, selection, 400) else {
         return Ok(false);
     };
-    let Ok(text) = chart_text(alloc, &chart, b"a&b.trace", b"verdict", b"wrong", b"kept") else {
+    let below = Below {
+        wrong: b"wrong",
+        kept: b"kept",
+        expected: b"UC",
+        got: b"SD",
+    };
+    let Ok(text) = chart_text(alloc, &chart, b"a&b.trace", b"verdict", &below) else {
         return Ok(false);
     };
     let mut all = text.ends_with(b"</svg>\n");
@@ -115,12 +194,21 @@ fn has(alloc: Global, events: &[Event], line: Option<u32>, parts: &[&[u8]]) -> R
 
 #[test]
 fn writes_svg(rt: HostRuntime) -> Result<(), Fail> {
-    let refused: [&[u8]; 6] = [
-        b"<svg xmlns=\"http://www.w3.org/2000/svg\" viewBox=\"0 0 880 376\" width=\"880\" height=\"376\">\n<style>\n",
+    let refused: [&[u8]; 10] = [
+        b"<svg xmlns=\"http://www.w3.org/2000/svg\" viewBox=\"0 0 880 406\" width=\"880\" height=\"406\">\n<style>\n",
         b">a&amp;b.trace</text>\n",
         b"<rect class=\"band\" x=\"8\" y=\"184\" width=\"864\" height=\"30\"/>\n",
         b"<line class=\"address\" x1=\"538\" y1=\"154\" x2=\"363\" y2=\"154\"/>\n",
         b"<title>granted to ReadUnique of port 0</title>\n",
+        b"<text class=\"value\" x=\"16\" y=\"302\">expected</text>\n\
+<text class=\"value\" x=\"84\" y=\"302\">UC</text>\n\
+<text class=\"value\" x=\"16\" y=\"318\">got</text>\n\
+<text class=\"value\" x=\"84\" y=\"318\">SD</text>\n",
+        b"<line class=\"reason\" x1=\"100\" y1=\"130\" x2=\"112\" y2=\"130\"/>\n\
+<line class=\"reason\" x1=\"864\" y1=\"130\" x2=\"852\" y2=\"130\"/>\n\
+<text class=\"reason\" x=\"848\" y=\"134\">who has the line</text>\n",
+        b"<text class=\"reason\" x=\"848\" y=\"158\">its transaction</text>\n",
+        b"<text class=\"reason\" x=\"848\" y=\"182\">the grant</text>\n",
         b"<title>event 4, line 6 of the trace</title>\n<text class=\"number\" x=\"96\" y=\"206\">4</text>\n\
 <rect class=\"stop\" x=\"345\" y=\"197\" width=\"10\" height=\"10\"/>\n\
 <text class=\"stop-beside\" x=\"366\" y=\"206\">G p1 ReadUnique</text>\n</g>\n",
@@ -134,6 +222,14 @@ fn writes_svg(rt: HostRuntime) -> Result<(), Fail> {
     assert!(rt; has(rt.alloc(), &two_grants(), Some(64), &refused)?);
     assert!(rt; has(rt.alloc(), &stored(), Some(64), &kept)?);
     assert!(rt; has(rt.alloc(), &stored(), None, &[b">MEM</text>\n"])?);
+    let selection = events(4, 6, None);
+    let gaps: [&[u8]; 3] = [
+        b"<line class=\"gap\" x1=\"16\" y1=\"111\" x2=\"864\" y2=\"111\"/>\n\
+<text class=\"gap\" x=\"16\" y=\"121\">2 left out</text>\n<g><title>event 4, line 6",
+        b"<text class=\"gap\" x=\"16\" y=\"193\">3 left out</text>\n",
+        b"viewBox=\"0 0 880 382\"",
+    ];
+    assert!(rt; has_selected(rt.alloc(), &stored(), Some(64), &selection, &gaps)?);
     assert!(rt;
         !has(
             rt.alloc(),

@@ -1,9 +1,11 @@
 -- Counting, place by place.
-use Rattle.std.proofs.Common.{◌≡◌, ◌<◌, ◌≤◌, ◌+◌, ◌-◌, ◌^◌, ℕ, zero, suc, Bool, true, false, List, [], ◌∷◌, ◌++◌, Option, length, map, take, drop, slice_index, slice_set, get_or, if◌then◌else◌, refl, sym, ap, ◌∙◌, arith}
+use Rattle.std.proofs.Common.{◌||◌, ◌≡◌, ◌<◌, ◌≤◌, ◌+◌, ◌-◌, ◌^◌, ℕ, zero, suc, Bool, true, false, List, [], ◌∷◌, ◌++◌, Option, length, map, take, drop, slice_index, slice_set, get_or, if◌then◌else◌, refl, sym, ap, ◌∙◌, arith}
 use Rattle.std.proofs.lemmas.List.{take_all}
+use Rattle.std.proofs.lemmas.List.Folds.{list_any-append}
 use Rattle.ace_cover.specs.Counts.{count, has_point, shows, sum_of, sums}
 use Rattle.ace_event.specs.declared.header.Header.{Header}
-use Rattle.ace_model.specs.Trace.{Trace}
+use Rattle.ace_model.specs.Trace.{Trace, is_some_and}
+use Rattle.ace_points.specs.Same.{same_point}
 use Rattle.ace_points.specs.declared.point.Point.{Point}
 
 -- no point is shown by more events than there are
@@ -14,6 +16,13 @@ count_few h (e ∷ past) p = by_case (shows h past e p) (count_few h past p)
     by_case : (b : Bool) → count h past p ≤ length past → (if b then count h past p + 1 else count h past p) ≤ suc (length past)
     by_case true few = omega (arith, few)
     by_case false few = omega (arith, few)
+
+-- a point is among the lists where it is among one of them
+pub among_all : (rows rules situations : List (Option Point)) (p : Point)
+    → has_point (rows ++ (rules ++ situations)) p ≡ (has_point rows p || (has_point rules p || has_point situations p))
+among_all rows rules situations p =
+    list_any-append (λ o. is_some_and o (λ q. same_point q p)) rows (rules ++ situations)
+    ∙ ap (λ b. has_point rows p || b) (list_any-append (λ o. is_some_and o (λ q. same_point q p)) rules situations)
 
 -- there is no place in an empty list
 nowhere : {A : Type 0} → (i : ℕ) → i < 0 → A

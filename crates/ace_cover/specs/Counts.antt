@@ -29,7 +29,8 @@ count h (e ∷ past) p = if shows h past e p then count h past p + 1 else count 
 abbrev pub counts : Header → Trace → List Point → List ℕ
 counts h past points = map (count h past) points
 
--- Where the verdict on the bytes is that they are an accepted trace, the hits are the counts of its events.
+-- Where the verdict on the bytes is that they are an accepted trace, the hits are the counts of its
+-- events.
 abbrev pub AreCounts : Limits → List Point → List ℕ → List ℕ → Verdict → Type 0
 AreCounts limits points bytes hits (Accepted n) =
     (h : Header) × (events : List Event) × ReadsWithin limits.events bytes h events Whole

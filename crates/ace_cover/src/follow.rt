@@ -8,7 +8,7 @@ ghost use Rattle.ace_grammar.specs.Reading.{most_counted};
 ghost use Rattle.ace_io.specs.Reader.{source_of, waiting};
 ghost use Rattle.ace_model.specs.Trace.{Trace};
 ghost use Rattle.ace_model.specs.declared.breaks.Break.{Break};
-ghost use Rattle.ace_points.specs.Shown.{shown};
+ghost use Rattle.ace_points.specs.Shown.{points_of, shown};
 ghost use Rattle.ace_verdict.specs.Errors.{refusal_of};
 ghost use Rattle.ace_verdict.specs.Progress.{HasReadCause, IsStop, StandsAt};
 ghost use Rattle.ace_verdict.specs.Verdict.{IsVerdictWithin};
@@ -20,14 +20,14 @@ use ace_event::{Event, Header};
 use ace_grammar::ReadErr;
 use ace_io::{LineBuf, LineReader, NoMemory, Source};
 use ace_malformed::{next_event, read_header};
-use ace_points::{Point, shown};
+use ace_points::{Point, PointsShown, shown};
 use ace_verdict::{Limits, Verdict};
 use std::alloc::Global;
 
 /// What the next event shows.
-fn shown_now(checker: &Checker, event: &Event) -> [Option<Point>; 5]
+fn shown_now(checker: &Checker, event: &Event) -> PointsShown
     ensures { (lines : ℕ) (h : Head) (past : Trace) (b : Option Break)
-        → StandsWithin lines checker.now h past b → result ≡ shown h past event.now }
+        → StandsWithin lines checker.now h past b → points_of result ≡ shown h past event.now }
 {
     let shares = checker.shares();
     shown(shares.ports(), shares.lines(), shares.system(), event)

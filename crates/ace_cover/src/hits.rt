@@ -3,9 +3,10 @@ ghost use Rattle.std.specs.Prelude.{◌≡◌, ◌<◌, ◌+◌, ◌-◌, ◌^�
 ghost use Rattle.ace_cover.specs.Counts.{has_point};
 ghost use Rattle.ace_model.specs.Trace.{is_some_and};
 ghost use Rattle.ace_points.specs.Same.{same_point};
+ghost use Rattle.ace_points.specs.Shown.{points_of};
 ghost use Rattle.ace_points.specs.declared.point.Point.{Point as Shown};
 
-use ace_points::{Point, same_point};
+use ace_points::{Point, PointsShown, same_point};
 
 /// The point is the one that is shown.
 fn is_point(shown: &Option<Point>, point: &Point) -> bool
@@ -18,10 +19,20 @@ fn is_point(shown: &Option<Point>, point: &Point) -> bool
 }
 
 /// The point is among those that are shown.
-fn has_point(shown: &[Option<Point>; 5], point: &Point) -> bool
+fn has_point(shown: &[Option<Point>], point: &Point) -> bool
     ensures { result ≡ has_point shown.now point.now }
 {
     shown.iter().any(|one| is_point(one, point))
+}
+
+/// The event shows the point.
+#[tactic(auto, using(crate::proofs::Counting::among_all))]
+fn shows(shown: &PointsShown, point: &Point) -> bool
+    ensures { result ≡ has_point (points_of shown.now) point.now }
+{
+    has_point(&shown.rows, point)
+        || has_point(&shown.rules, point)
+        || has_point(&shown.situations, point)
 }
 
 /// One more, where it is so.
@@ -44,13 +55,14 @@ fn count_at(hits: &mut Vec<u64>, place: usize, is_hit: bool)
 }
 
 /// Counts the points that an event shows: `hits` has the count of each point, in their order.
-pub(crate) fn count_shown(points: &[Point], hits: &mut Vec<u64>, shown: &[Option<Point>; 5])
+pub(crate) fn count_shown(points: &[Point], hits: &mut Vec<u64>, shown: &PointsShown)
     ensures { (before after : Shown → ℕ) → hits.old.items ≡ map before points.now
         → ((p : Shown) → before p < 2 ^ 64 - 1)
-        → ((p : Shown) → after p ≡ (if has_point shown.now p then before p + 1 else before p))
+        → ((p : Shown) → after p
+        ≡ (if has_point (points_of shown.now) p then before p + 1 else before p))
         → hits.new.items ≡ map after points.now }
 {
     for place in 0..points.len() {
-        count_at(hits, place, has_point(shown, &points[place]));
+        count_at(hits, place, shows(shown, &points[place]));
     }
 }

@@ -5,6 +5,7 @@ mod follow;
 mod hits;
 mod names;
 mod push;
+mod situations;
 mod table;
 mod totals;
 

@@ -4,6 +4,7 @@ ghost use Rattle.ace_cover.specs.Names.{answer_text, bar_word, dirty_word, faile
 ghost use Rattle.ace_event.specs.Text.{hex_text, state_text};
 
 use crate::push::{push, push_number, push_three, push_two};
+use crate::situations::situation_name;
 use ace_codes::{ArKind, LineState};
 use ace_io::NoMemory;
 use ace_points::Point;
@@ -185,6 +186,8 @@ pub fn push_name(text: &mut Vec<u8>, point: &Point) -> Result<(), NoMemory>
             push_answer(text, resp, next)
         }
         Point::Silent { from, to } => push_move(text, from, to),
+        Point::Rule { rule } => push_numbered(text, b"K", rule),
+        Point::Met { situation } => push(text, situation_name(situation)),
         _ => push_transaction(text, point),
     }
 }

@@ -4,8 +4,8 @@ use crate::push::{push, push_number, push_three, push_two};
 use crate::totals::Totals;
 use ace_io::NoMemory;
 use ace_points::{
-    Point, answer_points, read_end_points, silent_points, start_points, transaction_points,
-    update_points, write_end_points,
+    Point, answer_points, read_end_points, rule_points, silent_points, situation_points,
+    start_points, transaction_points, update_points, write_end_points,
 };
 use itoa::Buffer;
 
@@ -36,7 +36,7 @@ fn cut<'a>(
 }
 
 /// The groups.
-pub(crate) fn groups_of<'a>(hits: &'a [u64]) -> [Group<'a>; 7] {
+pub(crate) fn groups_of<'a>(hits: &'a [u64]) -> [Group<'a>; 9] {
     let (transactions, rest) = cut(b"transactions", transaction_points(), hits);
     let (starts, rest) = cut(b"start states", start_points(), rest);
     let (read_ends, rest) = cut(b"ends of reads", read_end_points(), rest);
@@ -47,7 +47,9 @@ pub(crate) fn groups_of<'a>(hits: &'a [u64]) -> [Group<'a>; 7] {
         update_points(),
         rest,
     );
-    let (silent, _rest) = cut(b"silent transitions", silent_points(), rest);
+    let (silent, rest) = cut(b"silent transitions", silent_points(), rest);
+    let (rules, rest) = cut(b"rules in earnest", rule_points(), rest);
+    let (situations, _rest) = cut(b"situations", situation_points(), rest);
     [
         transactions,
         starts,
@@ -56,6 +58,8 @@ pub(crate) fn groups_of<'a>(hits: &'a [u64]) -> [Group<'a>; 7] {
         answers,
         updates,
         silent,
+        rules,
+        situations,
     ]
 }
 

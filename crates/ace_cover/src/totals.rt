@@ -5,8 +5,8 @@ ghost use Rattle.ace_points.specs.Points.{all_points};
 
 use ace_io::NoMemory;
 use ace_points::{
-    Point, answer_points, read_end_points, silent_points, start_points, transaction_points,
-    update_points, write_end_points,
+    Point, answer_points, read_end_points, rule_points, silent_points, situation_points,
+    start_points, transaction_points, update_points, write_end_points,
 };
 use std::alloc::Global;
 
@@ -45,6 +45,8 @@ pub fn all_points(alloc: Global) -> Result<Vec<Point>, NoMemory>
     push_points(&mut points, answer_points())?;
     push_points(&mut points, update_points())?;
     push_points(&mut points, silent_points())?;
+    push_points(&mut points, rule_points())?;
+    push_points(&mut points, situation_points())?;
     Ok(points)
 }
 

@@ -17,7 +17,8 @@ const GIVEN_UP: &str = "{\"format\":\"ace cover 1\",\"traces\":2,\"events\":16,\
     \"transactions\":{\"ACE ReadUnique\":2},\"start states\":{\"ReadUnique from I\":2},\
     \"ends of reads\":{\"ReadUnique from I, IsShared 0, PassDirty 0 -> UC\":2},\
     \"ends of writes\":{},\"snoop answers\":{},\"snoop answers with an update outstanding\":{},\
-    \"silent transitions\":{\"UC -> I\":2}}}\n";
+    \"silent transitions\":{\"UC -> I\":2},\"rules in earnest\":{\"K29\":2},\
+    \"situations\":{}}}\n";
 
 /// The same, and the port moves the line to a state to which it can't.
 const REFUSED: &str = "ACE 1\nPORTS AL\nS 0 00000040 UD\n";
@@ -54,7 +55,8 @@ fn accepted_traces_are_counted(rt: HostRuntime) -> Result<(), Fail> {
     Ok(())
 }
 
-/// Whether the table of these traces begins so, and fewer of a hundred points than so many were hit.
+/// Whether the table of these traces begins so, and fewer of a hundred points than so many were
+/// hit.
 fn has_table(alloc: Global, texts: &[&str], wanted: &str, percent: u64) -> Result<bool, Fail> {
     let totals = totals_of(alloc, texts)?;
     let mut text = Vec::new(alloc);
@@ -76,7 +78,9 @@ fn a_table_counts_points(rt: HostRuntime) -> Result<(), Fail> {
         snoop answers                                    0   148      0%\n\
         snoop answers with an update outstanding         0    42      0%\n\
         silent transitions                               1     4     25%  #####\n\
-        all                                              4   333      1%\n\
+        rules in earnest                                 1    37      2%\n\
+        situations                                       0    30      0%\n\
+        all                                              5   400      1%\n\
         \nNever hit\n  transactions (42)\n    ACE ReadNoSnoop\n";
     assert!(rt; has_table(rt.alloc(), &[GIVES_UP], wanted, 2)?);
     Ok(())

@@ -1,4 +1,5 @@
 pub mod Deeds
+pub mod Folding
 pub mod KindWords
 pub mod Phrases
 pub mod Sentences

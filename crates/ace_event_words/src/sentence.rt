@@ -1,15 +1,19 @@
 // The sentences that tell what events do.
-ghost use Rattle.std.specs.Prelude.{◌≡◌, ◌++◌, OnOk, codes, decimal, if◌then◌else◌};
-ghost use Rattle.ace_event_words.specs.Sentences.{acknowledges_words, answered_words, answers_words, asked_words, asks_words, bit_words, deed_words, gets_words, its_words, kind_words, line_bits, loads_words, port_does, record_column, retires_words, sends_snooped_words, sends_words, served_words, snooped_words, state_words, stores_words, transfers_words};
+ghost use Rattle.std.specs.Prelude.{◌≡◌, ◌++◌, OnOk};
+ghost use Rattle.ace_event_words.specs.Sentences.{acknowledges_words, answered_words, answers_to, answers_words, asked_words, asks_words, bit_words, brings_no_line, deed_words, gets_words, is_dataless, its_words, kind_words, line_bits, loads_words, nth_words, port_does, received_words, record_column, retires_words, sends_snooped_words, sends_words, served_words, snoop_data, snooped_words, state_words, stores_words, transfers_words};
 
 use crate::deed::{Deed, Kind};
 use crate::kind_words::{read_words, snoop_words, write_words};
 use crate::phrase::{Phrase, phrase_words};
 use crate::small_words::{outcome_word, resp_word};
-use ace_codes::{LineState, has_error, is_shared, passes_dirty, transfers_data, was_unique};
+use crate::transfers::Transfers;
+use ace_codes::{
+    ArKind, LineState, has_error, is_shared, passes_dirty, read_ar, transfers_data, was_unique,
+};
 use ace_event::{Channel, Outcome};
 use ace_io::NoMemory;
 use ace_malformed::{push, push_number};
+use ace_model::kinds::beats_of;
 use ace_words::state_word;
 
 /// The record of the event, in three columns, with a space behind.
@@ -68,17 +72,18 @@ fn push_bit(text: &mut Vec<u8>, bit: bool, phrase: Phrase) -> Result<(), NoMemor
     Ok(())
 }
 
-/// Adds the transaction of the port that the event belongs to.
+/// Adds the transaction of the port that the event belongs to, or what stands for it where there
+/// is none.
 #[tactic(auto, unfolding(crate::specs::Sentences::its_words))]
-fn push_its(text: &mut Vec<u8>, kind: &Option<Kind>) -> Result<(), NoMemory>
-    ensures { OnOk result (text.new.items ≡ text.old.items ++ its_words kind.now) }
+fn push_its(text: &mut Vec<u8>, other: &[u8], kind: &Option<Kind>) -> Result<(), NoMemory>
+    ensures { OnOk result (text.new.items ≡ text.old.items ++ its_words other.now kind.now) }
 {
     match kind {
         Some(kind) => {
             push(text, b"its ")?;
             push(text, kind_words(kind))
         }
-        None => push(text, b"no transaction"),
+        None => push(text, other),
     }
 }
 
@@ -102,36 +107,73 @@ fn push_asks(text: &mut Vec<u8>, port: u8, kind: &Kind, id: u8, lock: bool) -> R
     push_bit(text, lock, Phrase::Exclusive)
 }
 
-/// One transfer, or several.
-fn transfers_word(many: bool) -> &'static [u8]
-    ensures { result.now ≡ (if many then codes "transfers of " else codes "a transfer of ") }
+/// Adds which transfer of how many.
+#[tactic(auto, unfolding(crate::specs::Sentences::nth_words))]
+fn push_nth(text: &mut Vec<u8>, number: u8, beats: u8) -> Result<(), NoMemory>
+    ensures { OnOk result (text.new.items ≡ text.old.items ++ nth_words number beats) }
 {
-    if many {
-        b"transfers of "
-    } else {
-        b"a transfer of "
+    push(text, b"transfer ")?;
+    push_number(text, u64::from(number))?;
+    push(text, b" of ")?;
+    push_number(text, u64::from(beats))?;
+    push(text, b" of ")
+}
+
+/// Adds so many transfers.
+fn push_transfers(text: &mut Vec<u8>, transfers: Transfers) -> Result<(), NoMemory>
+    ensures { OnOk result (text.new.items ≡ text.old.items ++ transfers_words transfers) }
+{
+    match transfers {
+        Transfers::One => push(text, b"a transfer of "),
+        Transfers::Several => push(text, b"transfers of "),
+        Transfers::Nth { number, beats } => push_nth(text, number, beats),
     }
 }
 
-/// One transfer of the snooped line, or several.
-fn snooped_word(many: bool) -> &'static [u8]
-    ensures { result.now ≡ (if many then codes "transfers of the snooped line"
-        else codes "a transfer of the snooped line") }
+/// As many answers.
+fn answers_to(transfers: Transfers) -> &'static [u8]
+    ensures { result.now ≡ answers_to transfers }
 {
-    if many {
-        b"transfers of the snooped line"
-    } else {
-        b"a transfer of the snooped line"
+    match transfers {
+        Transfers::Several => b"answers to ",
+        _ => b"the answer to ",
     }
 }
 
-/// Adds one transfer, or several, of the port's transaction.
-#[tactic(auto, unfolding(crate::specs::Sentences::transfers_words))]
-fn push_transfers(text: &mut Vec<u8>, many: bool, kind: &Option<Kind>) -> Result<(), NoMemory>
-    ensures { OnOk result (text.new.items ≡ text.old.items ++ transfers_words many kind.now) }
+/// A read of this kind brings no line: its one transfer is the answer to it.
+fn is_dataless(kind: Option<ArKind>) -> bool
+    ensures { result ≡ is_dataless kind }
 {
-    push(text, transfers_word(many))?;
-    push_its(text, kind)
+    match kind {
+        None => false,
+        Some(kind) => beats_of(kind) == 1,
+    }
+}
+
+/// The transaction is one of such a kind.
+fn brings_no_line(kind: &Option<Kind>) -> bool
+    ensures { result ≡ brings_no_line kind.now }
+{
+    match kind {
+        None => false,
+        Some(kind) => is_dataless(read_ar(kind.snoop, kind.dom, kind.bar)),
+    }
+}
+
+/// Adds what the port gets of the read.
+fn push_received(
+    text: &mut Vec<u8>,
+    transfers: Transfers,
+    kind: &Option<Kind>,
+) -> Result<(), NoMemory>
+    ensures { OnOk result (text.new.items
+        ≡ text.old.items ++ received_words transfers kind.now) }
+{
+    if brings_no_line(kind) {
+        push(text, answers_to(transfers))
+    } else {
+        push_transfers(text, transfers)
+    }
 }
 
 /// Adds what a response says of the line.
@@ -147,35 +189,51 @@ fn push_line_bits(text: &mut Vec<u8>, resp: u8) -> Result<(), NoMemory>
 #[tactic(auto, unfolding(crate::specs::Sentences::gets_words))]
 fn push_gets(
     text: &mut Vec<u8>,
-    many: bool,
+    transfers: Transfers,
     port: u8,
     kind: &Option<Kind>,
     resp: u8,
 ) -> Result<(), NoMemory>
-    ensures { OnOk result (text.new.items ≡ text.old.items ++ gets_words many port kind.now resp) }
+    ensures { OnOk result (text.new.items
+        ≡ text.old.items ++ gets_words transfers port kind.now resp) }
 {
     push_does(text, port, Phrase::Gets)?;
-    push_transfers(text, many, kind)?;
+    push_received(text, transfers, kind)?;
+    push_its(text, b"a read", kind)?;
     push(text, resp_word(resp))?;
     push_line_bits(text, resp)
 }
 
 /// Adds a write transfer.
 #[tactic(auto, unfolding(crate::specs::Sentences::sends_words))]
-fn push_sends(text: &mut Vec<u8>, many: bool, port: u8, kind: &Option<Kind>) -> Result<(), NoMemory>
-    ensures { OnOk result (text.new.items ≡ text.old.items ++ sends_words many port kind.now) }
+fn push_sends(
+    text: &mut Vec<u8>,
+    transfers: Transfers,
+    port: u8,
+    kind: &Option<Kind>,
+) -> Result<(), NoMemory>
+    ensures { OnOk result (text.new.items ≡ text.old.items ++ sends_words transfers port kind.now) }
 {
     push_does(text, port, Phrase::Sends)?;
-    push_transfers(text, many, kind)
+    push_transfers(text, transfers)?;
+    push_its(text, b"a write", kind)
+}
+
+#[tactic(auto, unfolding(crate::specs::Sentences::snoop_data))]
+fn snoop_data() -> &'static [u8]
+    ensures { result.now ≡ snoop_data }
+{
+    b"its snoop data"
 }
 
 /// Adds a transfer of snoop data.
 #[tactic(auto, unfolding(crate::specs::Sentences::sends_snooped_words))]
-fn push_sends_snooped(text: &mut Vec<u8>, many: bool, port: u8) -> Result<(), NoMemory>
-    ensures { OnOk result (text.new.items ≡ text.old.items ++ sends_snooped_words many port) }
+fn push_sends_snooped(text: &mut Vec<u8>, transfers: Transfers, port: u8) -> Result<(), NoMemory>
+    ensures { OnOk result (text.new.items ≡ text.old.items ++ sends_snooped_words transfers port) }
 {
     push_does(text, port, Phrase::Sends)?;
-    push(text, snooped_word(many))
+    push_transfers(text, transfers)?;
+    push(text, snoop_data())
 }
 
 /// Adds a write response.
@@ -189,7 +247,7 @@ fn push_answered(
     ensures { OnOk result (text.new.items ≡ text.old.items ++ answered_words port kind.now resp) }
 {
     push_does(text, port, Phrase::GetsTheAnswerTo)?;
-    push_its(text, kind)?;
+    push_its(text, b"a write", kind)?;
     push(text, resp_word(resp))
 }
 
@@ -202,18 +260,20 @@ fn push_state(text: &mut Vec<u8>, port: u8, phrase: Phrase, st: LineState) -> Re
     push(text, state_word(st))
 }
 
-/// Adds an acknowledge.
+/// Adds an acknowledge of a read or a write.
 #[tactic(auto, unfolding(crate::specs::Sentences::acknowledges_words))]
 fn push_acknowledges(
     text: &mut Vec<u8>,
     port: u8,
+    other: &[u8],
     kind: &Option<Kind>,
     st: LineState,
 ) -> Result<(), NoMemory>
-    ensures { OnOk result (text.new.items ≡ text.old.items ++ acknowledges_words port kind.now st) }
+    ensures { OnOk result (text.new.items
+        ≡ text.old.items ++ acknowledges_words port other.now kind.now st) }
 {
     push_does(text, port, Phrase::Acknowledges)?;
-    push_its(text, kind)?;
+    push_its(text, other, kind)?;
     push(text, phrase_words(Phrase::InState))?;
     push(text, state_word(st))
 }
@@ -250,7 +310,7 @@ fn push_served(
     ensures { OnOk result (text.new.items ≡ text.old.items ++ served_words port phrase kind.now) }
 {
     push_does(text, port, phrase)?;
-    push_its(text, kind)
+    push_its(text, b"a transaction", kind)
 }
 
 /// Adds a load.
@@ -283,13 +343,14 @@ fn push_retires(text: &mut Vec<u8>, port: u8, k: u16, res: Outcome) -> Result<()
     push(text, outcome_word(res))
 }
 
-/// Adds a sentence of what the event does, or several like it one after another.
+/// Adds a sentence of what the event does, which has so many transfers where it has any, or several
+/// like it one after another.
 ///
 /// # Errors
 ///
 /// `NoMemory` where there is none for the longer text.
-pub fn push_deed(text: &mut Vec<u8>, many: bool, deed: &Deed) -> Result<(), NoMemory>
-    ensures { OnOk result (text.new.items ≡ text.old.items ++ deed_words many deed.now) }
+pub fn push_deed(text: &mut Vec<u8>, transfers: Transfers, deed: &Deed) -> Result<(), NoMemory>
+    ensures { OnOk result (text.new.items ≡ text.old.items ++ deed_words transfers deed.now) }
 {
     match *deed {
         Deed::Ar {
@@ -298,15 +359,15 @@ pub fn push_deed(text: &mut Vec<u8>, many: bool, deed: &Deed) -> Result<(), NoMe
             id,
             lock,
         } => push_asks(text, port, &kind, id, lock),
-        Deed::R { port, kind, resp } => push_gets(text, many, port, &kind, resp),
-        Deed::Rk { port, kind, st } => push_acknowledges(text, port, &kind, st),
+        Deed::R { port, kind, resp } => push_gets(text, transfers, port, &kind, resp),
+        Deed::Rk { port, kind, st } => push_acknowledges(text, port, b"a read", &kind, st),
         Deed::Aw { port, kind, id } => push_asks(text, port, &kind, id, false),
-        Deed::W { port, kind } => push_sends(text, many, port, &kind),
+        Deed::W { port, kind } => push_sends(text, transfers, port, &kind),
         Deed::B { port, kind, resp } => push_answered(text, port, &kind, resp),
-        Deed::Wk { port, kind, st } => push_acknowledges(text, port, &kind, st),
+        Deed::Wk { port, kind, st } => push_acknowledges(text, port, b"a write", &kind, st),
         Deed::Ac { port, snoop } => push_snooped(text, port, snoop),
         Deed::Cr { port, resp, st } => push_answers(text, port, resp, st),
-        Deed::Cd { port } => push_sends_snooped(text, many, port),
+        Deed::Cd { port } => push_sends_snooped(text, transfers, port),
         Deed::G { port, kind } => push_served(text, port, Phrase::IsGrantedTheLine, &kind),
         Deed::M { port, kind } => push_served(text, port, Phrase::HasMemoryWritten, &kind),
         Deed::S { port, st } => push_state(text, port, Phrase::MovesTheLine, st),

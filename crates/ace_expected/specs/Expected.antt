@@ -1,4 +1,5 @@
--- What a clause that is false expects of an event, and what it got: for those clauses that expect a value.
+-- What a clause that is false expects of an event, and what it got: for those clauses that expect a
+-- value.
 use Rattle.std.specs.Prelude.{ℕ, ◌+◌, ◌&&◌, ◌||◌, ◌==◌, not, Bool, true, false, if◌then◌else◌, Option, Some, None, is_some, option_map}
 use Rattle.ace_clauses.specs.declared.letters.Letter.{Letter}
 use Rattle.ace_clauses.specs.declared.letters.Letter.TheVariants as letter
@@ -38,7 +39,8 @@ use Rattle.ace_portck.specs.declared.target.Progress.{Progress}
 -- ---- states
 
 -- K6: a start state of the kind, and the state that the port holds
-abbrev pub start_of : Header → Trace → Transaction → Option ArKind → Option AwKind → Option Expectation
+abbrev pub start_of : Header → Trace → Transaction → Option ArKind
+    → Option AwKind → Option Expectation
 start_of h past x (Some kind) write = Some (State (ReadStart kind) (state_of h past x.port x.addr))
 start_of h past x None (Some kind) = Some (State (WriteStart kind) (state_of h past x.port x.addr))
 start_of h past x None None = None
@@ -65,7 +67,8 @@ read_end h past (Some x) st = read_end_of h past x (read_kind x.transaction) st
 -- K28: an end state of the write
 abbrev pub write_end_of : Header → Trace → Progress → Option AwKind → LineState → Option Expectation
 write_end_of h past x None st = None
-write_end_of h past x (Some kind) st = Some (State (WriteEnd kind (held_of h past x.transaction)) st)
+write_end_of h past x (Some kind) st =
+    Some (State (WriteEnd kind (held_of h past x.transaction)) st)
 
 abbrev pub write_end : Header → Trace → Option Progress → LineState → Option Expectation
 write_end h past None st = None
@@ -77,9 +80,11 @@ acknowledged_by h past p c =
     option_map (progress_of h past) (if is_ace h p then acknowledged past p c else None)
 
 -- K15 and K16: an answer to the snoop
-abbrev pub answer_of : Header → Trace → ℕ → Snoop → Option SnoopKind → Bool → ℕ → LineState → Option Expectation
+abbrev pub answer_of : Header → Trace → ℕ → Snoop → Option SnoopKind
+    → Bool → ℕ → LineState → Option Expectation
 answer_of h past p s None update resp st = None
-answer_of h past p s (Some kind) update resp st = Some (Answer kind (state_of h past p s.addr) update resp st)
+answer_of h past p s (Some kind) update resp st =
+    Some (Answer kind (state_of h past p s.addr) update resp st)
 
 abbrev pub answer : Header → Trace → ℕ → Option Snoop → Bool → ℕ → LineState → Option Expectation
 answer h past p None update resp st = None
@@ -180,7 +185,8 @@ of_r h past x last word k c =
 
 abbrev pub of_l : Header → Trace → ℕ → ℕ → ℕ → ℕ → ℕ → Option Expectation
 of_l h past p addr w word k =
-    if k == 30 then Some (State Load (state_of h past p addr)) else only (k == 31) (copied_word past p addr w word)
+    if k == 30 then Some (State Load (state_of h past p addr))
+    else only (k == 31) (copied_word past p addr w word)
 
 -- what the clause of rule k expects of the event after the trace, and what it got; nothing where it
 -- expects no value

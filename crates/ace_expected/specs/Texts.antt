@@ -25,7 +25,8 @@ add_state table so_far st = if allows table st then joined so_far (state_text st
 
 unfoldable pub states_text : StateTable → List ℕ
 states_text table =
-    add_state table (add_state table (add_state table (add_state table (add_state table [] UD) SD) UC) SC) I
+    add_state table (add_state table
+    (add_state table (add_state table (add_state table [] UD) SD) UC) SC) I
 
 -- an answer to a snoop, as in a CR: CRRESP and the state
 unfoldable pub row_text : Row → List ℕ

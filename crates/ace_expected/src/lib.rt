@@ -10,5 +10,5 @@ mod values;
 mod wanted;
 
 pub use clauses::expectation;
-pub use text::push_expectation;
+pub use text::{expected_text, got_text, push_expectation};
 pub use wanted::{Expectation, StateTable, Width};

@@ -172,7 +172,11 @@ fn row_text(alloc: Global, row: &Row) -> Result<Vec<u8>, NoMemory>
 }
 
 /// What is expected: nothing where no value is right.
-fn expected_text(alloc: Global, x: &Expectation) -> Result<Vec<u8>, NoMemory>
+///
+/// # Errors
+///
+/// `NoMemory` where there is none for the text.
+pub fn expected_text(alloc: Global, x: &Expectation) -> Result<Vec<u8>, NoMemory>
     ensures { IfOk result (λ words. words.items ≡ expected_text x.now) }
 {
     match *x {
@@ -193,7 +197,11 @@ fn expected_text(alloc: Global, x: &Expectation) -> Result<Vec<u8>, NoMemory>
 }
 
 /// What was got.
-fn got_text(alloc: Global, x: &Expectation) -> Result<Vec<u8>, NoMemory>
+///
+/// # Errors
+///
+/// `NoMemory` where there is none for the text.
+pub fn got_text(alloc: Global, x: &Expectation) -> Result<Vec<u8>, NoMemory>
     ensures { IfOk result (λ words. words.items ≡ got_text x.now) }
 {
     match *x {

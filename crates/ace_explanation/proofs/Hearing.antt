@@ -18,28 +18,32 @@ use Rattle.ace_journal.specs.declared.journal.Journal.{Journal}
 use Rattle.ace_journal.specs.declared.rows.Row.{Row}
 use Rattle.ace_model.specs.Accepted.{least_broken}
 use Rattle.ace_model.specs.Trace.{Trace}
+use Rattle.ace_since.specs.Kept.{SinceStands}
+use Rattle.ace_since.specs.declared.since.Since.{Since}
 use Rattle.ace_verdict.specs.Progress.{IsStop, StopsAt}
 use Rattle.ace_verdict.specs.declared.verdict.Verdict.TheVariants as verdict
 
 pub fine_heard : (lines : ℕ) (new : Listener) (h : Header) (past : Trace) (e : Event) → IsAnswerWithin lines h past e Fine
     → StandsWithin lines new.checker h (e ∷ past) None → LoadsStand (e ∷ past) new.loads → JournalStands h (e ∷ past) new.journal
-    → HasHeard lines new h past e None
-fine_heard lines new h past e a s l j = record { fine = a; stands = (s, l, j); stops = tt; breaks = tt }
+    → SinceStands h (e ∷ past) new.since → HasHeard lines new h past e None
+fine_heard lines new h past e a s l j n = record { fine = a; stands = (s, l, j, n); stops = tt; breaks = tt }
 
 pub no_memory_heard : (lines : ℕ) (new : Listener) (h : Header) (past : Trace) (e : Event)
     → HasHeard lines new h past e (Some (Other verdict.NoMemory))
 no_memory_heard lines new h past e = record { fine = tt; stands = tt; stops = tt; breaks = tt }
 
 -- the event was kept, or there was no memory for it
-pub kept_heard : (lines : ℕ) (new : Listener) (h : Header) (past : Trace) (e : Event) (old : Journal) (line : Option ℕ) (row : Row)
+pub kept_heard : (lines : ℕ) (new : Listener) (h : Header) (past : Trace) (e : Event) (old : Journal) (before : Since) (line : Option ℕ) (row : Row)
     (goes_on : Bool) (told : Explanation)
     → IsAnswerWithin lines h past e Fine → StandsWithin lines new.checker h (e ∷ past) None → LoadsStand (e ∷ past) new.loads
-    → JournalStands h past old → line ≡ event_line h past e → row ≡ row_of h past e
+    → JournalStands h past old → SinceStands h past before → line ≡ event_line h past e → row ≡ row_of h past e
     → (goes_on ≡ true → (g : Header) (t : Trace) → JournalStands g t old → line ≡ event_line g t e → row ≡ row_of g t e
     → JournalStands g (e ∷ t) new.journal)
+    → (goes_on ≡ true → SinceStands h past before → line ≡ event_line h past e → SinceStands h (e ∷ past) new.since)
     → (goes_on ≡ false → told ≡ Other verdict.NoMemory) → HasHeard lines new h past e (told_unless goes_on told)
-kept_heard lines new h past e old line row true told a s l stood is own kept none = fine_heard lines new h past e a s l (kept refl h past stood is own)
-kept_heard lines new h past e old line row false told a s l stood is own kept none =
+kept_heard lines new h past e old before line row true told a s l stood so is own kept since none =
+    fine_heard lines new h past e a s l (kept refl h past stood is own) (since refl so is)
+kept_heard lines new h past e old before line row false told a s l stood so is own kept since none =
     subst (λ y. HasHeard lines new h past e (Some y)) (sym (none refl)) (no_memory_heard lines new h past e)
 
 pub broken_heard : (lines : ℕ) (new : Listener) (h : Header) (past : Trace) (e : Event) (x : Explanation) (index rule : ℕ)

@@ -1,4 +1,5 @@
 pub mod Ends
+pub mod EventLines
 pub mod Hearing
 pub mod HeaderLines
 pub mod Lines

@@ -62,8 +62,8 @@ ShowsPlace bytes (Accepted events outstanding) = LeavesOutstanding bytes outstan
 ShowsPlace bytes (Other v) = IsOther v
 
 -- The verdict is the one on these bytes, where a trace may have so much; where it is refused, the
--- event and the clause are right, where it is malformed, the line, and where it is accepted, what is
--- outstanding. A fault of the input and want of memory may take the place of all that.
+-- event and the clause are right, where it is malformed, the line, and where it is accepted, what
+-- is outstanding. A fault of the input and want of memory may take the place of all that.
 abbrev pub IsExplanationWithin : Limits → List ℕ → Explanation → Type 0
 IsExplanationWithin limits bytes x =
     IsVerdictWithin limits bytes (verdict_of x) × ShowsPlace bytes x

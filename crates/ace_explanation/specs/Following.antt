@@ -15,12 +15,13 @@ use Rattle.ace_explanation.specs.declared.listener.Listener.{Listener}
 use Rattle.ace_journal.specs.Journals.{IsLed, JournalStands}
 use Rattle.ace_model.specs.Accepted.{least_broken}
 use Rattle.ace_model.specs.Trace.{Trace}
+use Rattle.ace_since.specs.Kept.{SinceStands}
 use Rattle.ace_verdict.specs.Progress.{StandsAt, StopsAt}
 use Rattle.ace_verdict.specs.declared.limits.Limits.{Limits}
 
 -- Where the event that ends the check breaks a rule, it is the one that is told, with its header;
--- the clause is the first of the rule that is false; and what this expects and got, what there is of
--- its line before it, and what led to it are told as well.
+-- the clause is the first of the rule that is false; and what this expects and got, what there is
+-- of its line before it, and what led to it are told as well.
 abbrev pub BreaksAt : Header → Trace → Event → Explanation → Type 0
 BreaksAt h past e (Refused r) =
     (r.header ≡ h) × (r.event ≡ e) × (clause_of h past e r.rule ≡ Some r.letter)
@@ -31,11 +32,11 @@ BreaksAt h past e (Accepted events outstanding) = ⊥
 BreaksAt h past e (Other v) = IsOther v
 
 -- The listener has heard a trace, which is fine: its checker of so many lines stands for it, and so
--- do the loads and the journal.
+-- do the loads, the journal, and since when the lines are as they are.
 abbrev pub HasFollowed : ℕ → Listener → Header → Trace → Type 0
 HasFollowed lines l h past =
     StandsWithin lines l.checker h past None × LoadsStand past l.loads
-    × JournalStands h past l.journal
+    × JournalStands h past l.journal × SinceStands h past l.since
 
 -- The listener, of so many lines, which stood for a trace, has heard one event more, which is fine,
 -- and stands for the longer trace; or the event ended the check, and that is explained.

@@ -5,12 +5,13 @@ use Rattle.ace_before.specs.declared.before.LineBefore.{LineBefore}
 use Rattle.ace_clauses.specs.declared.letters.Letter.{Letter}
 use Rattle.ace_event.specs.Ports.{IsHeader}
 use Rattle.ace_event.specs.Range.{InRange}
-use Rattle.ace_event.specs.Text.{event_text, line_text}
+use Rattle.ace_event.specs.Text.{event_text}
 use Rattle.ace_event.specs.declared.header.Header.{Header}
+use Rattle.ace_event_words.specs.Folding.{folded_text}
 use Rattle.ace_expected.specs.Texts.{lines_text}
 use Rattle.ace_expected.specs.declared.wanted.Expectation.{Expectation}
 use Rattle.ace_explanation.specs.declared.refusal.Refusal.{Refusal}
-use Rattle.ace_journal.specs.LedTexts.{led_text}
+use Rattle.ace_journal.specs.LedTexts.{event_words, led_text}
 use Rattle.ace_pages.specs.Advice.{advice}
 use Rattle.ace_pages.specs.Pages.{page_name}
 use Rattle.ace_words.specs.Breaks.{wrong_with}
@@ -66,16 +67,22 @@ unfoldable pub before_part : ℕ → Header → Option LineBefore → List ℕ
 before_part index h None = []
 before_part index h (Some b) = codes "\n" ++ before.line_text index h b
 
--- the event as it stands in the trace; what the rule asks, expects and got; and what there is of the
--- line before the event: each with an empty line before it
+-- the event as it stands in the trace, with its data folded, and in words
+unfoldable pub event_part : Refusal → List ℕ
+event_part r =
+    codes "  " ++ folded_text r.event (event_text r.header.version r.event) ++ codes "\n"
+    ++ event_words r.led
+
+-- the event; what the rule asks, expects and got; and what there is of the line before the event:
+-- each with an empty line before it
 unfoldable pub evidence : Refusal → List ℕ
 evidence r =
-    codes "\n  " ++ line_text (event_text r.header.version r.event) ++ codes "\n"
+    codes "\n" ++ event_part r ++ codes "\n"
     ++ rule_line r ++ expected_part r.expected ++ before_part r.index r.header r.before
 
 -- what is told behind the first line: these, what led to the event, and where to look first
 unfoldable pub rest_of : Refusal → List ℕ
-rest_of r = evidence r ++ led_text r.led ++ advice r.rule
+rest_of r = evidence r ++ led_text r.rule r.letter r.led ++ advice r.rule
 
 -- what is told of the event in the trace of this name: the first line alone where that was asked
 -- for

@@ -29,7 +29,8 @@ verdict_line name v = name ++ (codes ": " ++ (verdict_text v ++ codes "\n"))
 -- line alone was asked for
 abbrev pub accepted_text : List ℕ → Bool → ℕ → ℕ → List ℕ
 accepted_text name short events outstanding =
-    verdict_line name (verdict.Accepted events) ++ (if short then [] else outstanding_note outstanding)
+    verdict_line name (verdict.Accepted events) ++ (if short then []
+    else outstanding_note outstanding)
 
 -- what is told of the trace of this name: the first line alone where that was asked for
 abbrev pub explanation_text : List ℕ → Bool → Explanation → List ℕ

@@ -1,5 +1,5 @@
 // Follows a trace event by event to its explanation.
-ghost use Rattle.std.specs.Prelude.{◌≡◌, true, false, ◌<◌, ◌≤◌, ◌-◌, ◌^◌, ℕ, List, [], Option, Some, None, length, IfSome, ◌∷◌};
+ghost use Rattle.std.specs.Prelude.{◌≡◌, true, false, ◌<◌, ◌≤◌, ◌-◌, ◌^◌, ℕ, List, [], Option, Some, None, length, IfSome, OnOk, ◌∷◌};
 ghost use Rattle.ace_belongs.specs.Belongs.{event_line};
 ghost use Rattle.ace_check.specs.Run.{StandsWithin};
 ghost use Rattle.ace_event.specs.Ports.{IsHeader};
@@ -17,6 +17,7 @@ ghost use Rattle.ace_model.specs.Accepted.{least_broken};
 ghost use Rattle.ace_model.specs.Trace.{Trace};
 ghost use Rattle.ace_model.specs.declared.breaks.Break.{Break};
 ghost use Rattle.ace_outstanding.specs.Outstanding.{outstanding_count};
+ghost use Rattle.ace_since.specs.Kept.{SinceStands};
 ghost use Rattle.ace_verdict.specs.Errors.{refusal_of};
 ghost use Rattle.ace_verdict.specs.Progress.{HasReadCause, IsStop, StandsAt};
 ghost use Rattle.ace_verdict.specs.declared.limits.Limits.{Limits as Bounds};
@@ -35,9 +36,10 @@ use ace_expected::expectation;
 use ace_explain::{LastLoads, clause};
 use ace_grammar::{ReadErr, Reason};
 use ace_io::{LineBuf, LineReader, NoMemory, Source};
-use ace_journal::{Journal, Row};
+use ace_journal::{Journal, Row, next_transfers};
 use ace_malformed::{BadLine, LineText, next_event, read_header};
 use ace_outstanding::count_outstanding;
+use ace_since::Since;
 use ace_verdict::{Limits, Verdict};
 use std::alloc::Global;
 
@@ -58,8 +60,8 @@ fn refuse(
     ensures breaks { (lines : ℕ) (past : Trace) (b : Option Break)
         → StandsWithin lines listener.now.checker header past b
         → LoadsStand past listener.now.loads → JournalStands header past listener.now.journal
-        → line ≡ event_line header past event.now → row ≡ row_of header past event.now
-        → least_broken header past event.now ≡ Some rule
+        → SinceStands header past listener.now.since → line ≡ event_line header past event.now
+        → row ≡ row_of header past event.now → least_broken header past event.now ≡ Some rule
         → BreaksAt header past event.now told.new }
 {
     let shares = listener.checker.shares();
@@ -74,8 +76,10 @@ fn refuse(
             rule,
             letter: found,
             expected: expectation(ports, lines, shares.system(), event, rule, found),
-            before: before_event(ports, lines, event),
-            led: listener.journal.led(line, row),
+            before: before_event(ports, lines, &listener.since, event),
+            led: listener
+                .journal
+                .led(line, row, next_transfers(ports, event)),
         },
     };
 }
@@ -86,6 +90,29 @@ fn stop(verdict: Verdict, told: &mut Explanation)
     ensures { told.new ≡ Other verdict }
 {
     *told = Explanation::Other { verdict };
+}
+
+/// Keeps what the next event, which breaks no rule and has this row, does to its line.
+fn keep_line(
+    listener: &mut Listener,
+    event: &Event,
+    line: Option<u32>,
+    row: Row,
+) -> Result<(), NoMemory>
+    ensures checker { listener.new.checker ≡ listener.old.checker }
+    ensures loads { listener.new.loads ≡ listener.old.loads }
+    ensures journal { OnOk result ((h : Head) (past : Trace)
+        → JournalStands h past listener.old.journal
+        → line ≡ event_line h past event.now → row ≡ row_of h past event.now
+        → JournalStands h (event.now ∷ past) listener.new.journal) }
+    ensures since { OnOk result ((lines : ℕ) (h : Head) (past : Trace)
+        → SinceStands h past listener.old.since
+        → StandsWithin lines listener.old.checker h (event.now ∷ past) None
+        → line ≡ event_line h past event.now
+        → SinceStands h (event.now ∷ past) listener.new.since) }
+{
+    listener.journal.hear(line, event, row)?;
+    listener.since.hear(&listener.checker, line, event)
 }
 
 /// Keeps the next event, which breaks no rule and has this row, and says whether the check goes on.
@@ -104,10 +131,14 @@ fn keep(
         → JournalStands h past listener.old.journal
         → line ≡ event_line h past event.now → row ≡ row_of h past event.now
         → JournalStands h (event.now ∷ past) listener.new.journal }
+    ensures since { result ≡ true → (lines : ℕ) (h : Head) (past : Trace)
+        → SinceStands h past listener.old.since
+        → StandsWithin lines listener.old.checker h (event.now ∷ past) None
+        → line ≡ event_line h past event.now → SinceStands h (event.now ∷ past) listener.new.since }
     ensures none { result ≡ false → told.new ≡ Other verdict.NoMemory }
 {
     listener.loads.hear(event);
-    match listener.journal.hear(line, event, row) {
+    match keep_line(listener, event, line, row) {
         Ok(()) => true,
         Err(NoMemory) => {
             stop(Verdict::NoMemory, told);
@@ -261,10 +292,12 @@ fn explanation_of<S: Source>(
             Ok(checker) => {
                 let loads = LastLoads::new();
                 let journal = Journal::new(alloc);
+                let since = Since::new(alloc);
                 let mut listener = Listener {
                     checker,
                     loads,
                     journal,
+                    since,
                 };
                 let explanation = follow(&mut listener, lines, &mut line, header, limits.events);
                 drop(listener);

@@ -10,10 +10,11 @@ mod next;
 mod refusal;
 mod refusals;
 mod to_sink;
-mod verdict_text;
+mod verdicts;
 
 pub use explanation::Explanation;
 pub use follow::explanation_within;
 pub use refusal::Refusal;
-pub use refusals::refusal_text;
+pub use refusals::{kept_sentence, refusal_text, title, wrong_sentence};
 pub use to_sink::tell;
+pub use verdicts::verdict_text;

@@ -2,16 +2,16 @@
 ghost use Rattle.std.specs.Prelude.{◌≡◌, ◌++◌, None, codes, decimal, IfOk, OnOk};
 ghost use Rattle.ace_journal.specs.LedTexts.{led_text};
 ghost use Rattle.ace_pages.specs.Pages.{page_name};
-ghost use Rattle.ace_explanation.specs.Refusals.{HasLine, before_part, evidence, expected_part, kept_part, kept_sentence, place_text, refusal_line, refusal_text, rest_of, rule_line, title, wrong_part, wrong_sentence};
+ghost use Rattle.ace_explanation.specs.Refusals.{HasLine, before_part, event_part, evidence, expected_part, kept_part, kept_sentence, place_text, refusal_line, refusal_text, rest_of, rule_line, title, wrong_part, wrong_sentence};
 
-use crate::event_line::push_event_line;
+use crate::event_line::push_event_text;
 use crate::refusal::Refusal;
 use ace_before::{LineBefore, push_line_before};
 use ace_clauses::{ClauseName, Letter};
 use ace_event::Header;
 use ace_expected::{Expectation, push_expectation};
 use ace_io::NoMemory;
-use ace_journal::push_led;
+use ace_journal::{push_event_words, push_led};
 use ace_malformed::{push, push_number};
 use ace_pages::{page_name, push_advice};
 use ace_words::{kept_where, rule_title, wrong_with};
@@ -19,7 +19,7 @@ use std::alloc::Global;
 
 /// What is wrong where the clause is broken.
 #[tactic(auto, unfolding(crate::specs::Refusals::wrong_sentence))]
-fn wrong_sentence(rule: u8, letter: Letter) -> &'static [u8]
+pub fn wrong_sentence(rule: u8, letter: Letter) -> &'static [u8]
     ensures { result.now ≡ wrong_sentence rule letter }
 {
     wrong_with(ClauseName { rule, letter })
@@ -27,7 +27,7 @@ fn wrong_sentence(rule: u8, letter: Letter) -> &'static [u8]
 
 /// Where the clause is kept.
 #[tactic(auto, unfolding(crate::specs::Refusals::kept_sentence))]
-fn kept_sentence(rule: u8, letter: Letter) -> &'static [u8]
+pub fn kept_sentence(rule: u8, letter: Letter) -> &'static [u8]
     ensures { result.now ≡ kept_sentence rule letter }
 {
     kept_where(ClauseName { rule, letter })
@@ -35,7 +35,7 @@ fn kept_sentence(rule: u8, letter: Letter) -> &'static [u8]
 
 /// The title of the rule.
 #[tactic(auto, unfolding(crate::specs::Refusals::title))]
-fn title(rule: u8) -> &'static [u8]
+pub fn title(rule: u8) -> &'static [u8]
     ensures { result.now ≡ title rule }
 {
     rule_title(rule)
@@ -154,14 +154,26 @@ fn push_before(
     }
 }
 
+/// Adds the event as it stands in the trace, and in words.
+#[tactic(auto, unfolding(crate::specs::Refusals::event_part))]
+fn push_event(alloc: Global, text: &mut Vec<u8>, refusal: &Refusal) -> Result<(), NoMemory>
+    requires { HasLine refusal.now }
+    ensures { OnOk result (text.new.items ≡ text.old.items ++ event_part refusal.now) }
+{
+    push(text, b"  ")?;
+    push_event_text(alloc, text, &refusal.header, &refusal.event)?;
+    push(text, b"\n")?;
+    push_event_words(text, &refusal.led)
+}
+
 /// Adds the event; what the rule asks, expects and got; and what there is of its line before it.
 #[tactic(auto, unfolding(crate::specs::Refusals::evidence))]
 fn push_evidence(alloc: Global, text: &mut Vec<u8>, refusal: &Refusal) -> Result<(), NoMemory>
     requires { HasLine refusal.now }
     ensures { OnOk result (text.new.items ≡ text.old.items ++ evidence refusal.now) }
 {
-    push(text, b"\n  ")?;
-    push_event_line(alloc, text, &refusal.header, &refusal.event)?;
+    push(text, b"\n")?;
+    push_event(alloc, text, refusal)?;
     push(text, b"\n")?;
     push_rule(text, refusal)?;
     push_expected(alloc, text, &refusal.expected)?;
@@ -175,7 +187,7 @@ fn push_rest(alloc: Global, text: &mut Vec<u8>, refusal: &Refusal) -> Result<(),
     ensures { OnOk result (text.new.items ≡ text.old.items ++ rest_of refusal.now) }
 {
     push_evidence(alloc, text, refusal)?;
-    push_led(alloc, text, &refusal.led)?;
+    push_led(alloc, text, refusal.rule, refusal.letter, &refusal.led)?;
     push_advice(text, refusal.rule)
 }
 

@@ -9,7 +9,7 @@ ghost use Rattle.ace_explanation.specs.declared.explanation.Explanation.TheVaria
 use crate::explanation::Explanation;
 use crate::refusal::Refusal;
 use crate::refusals::refusal_text;
-use crate::verdict_text::{give_accepted, give_verdict};
+use crate::verdicts::{give_accepted, give_verdict};
 use ace_call::give_text;
 use ace_io::{Failed, NoMemory, Sink};
 use ace_malformed::{BadLine, bad_line_text};

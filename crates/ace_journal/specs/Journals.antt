@@ -5,6 +5,7 @@ use Rattle.ace_belongs.specs.Belongs.{event_line}
 use Rattle.ace_event.specs.declared.event.Event.{Event}
 use Rattle.ace_event.specs.declared.header.Header.{Header}
 use Rattle.ace_journal.specs.Rows.{led_rows, row_of, rows_on}
+use Rattle.ace_journal.specs.Transfers.{transfers_in}
 use Rattle.ace_journal.specs.declared.journal.Journal.{Journal}
 use Rattle.ace_journal.specs.declared.led.Led.{Led}
 use Rattle.ace_journal.specs.declared.rows.Row.{Row}
@@ -25,8 +26,10 @@ rows_at j (Some l) = items_of (get nat_eq j.lines l)
 pub record JournalStands (h : Header) (past : Trace) (j : Journal) : Type 0 where
   pub rows : (line : Option ℕ) → rows_at j line ≡ take 16 (rows_on h past line)
 
--- it tells what led to the event: the rows, the newest first, its own row, and its line
+-- it tells what led to the event: the rows, the newest first, its own row, which transfer it is,
+-- and its line
 pub record IsLed (h : Header) (past : Trace) (e : Event) (d : Led) : Type 0 where
   pub rows : take d.count d.rows ≡ led_rows h past e
   pub own : d.own ≡ row_of h past e
+  pub transfers : d.transfers ≡ transfers_in h past e
   pub line : d.line ≡ event_line h past e

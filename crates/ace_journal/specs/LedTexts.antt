@@ -1,9 +1,16 @@
 -- The text of what led to an event.
-use Rattle.std.specs.Prelude.{ℕ, ◌==◌, ◌-◌, ◌++◌, Bool, not, if◌then◌else◌, List, [], ◌∷◌, Option, Some, None, codes, decimal, length, replicate, take}
+use Rattle.std.specs.Prelude.{ℕ, ◌+◌, ◌==◌, ◌-◌, ◌++◌, Bool, not, if◌then◌else◌, List, [], ◌∷◌, Option, Some, None, codes, decimal, length, replicate, take}
+use Rattle.ace_clauses.specs.declared.letters.Letter.{Letter}
 use Rattle.ace_event.specs.Text.{hex_text}
 use Rattle.ace_event_words.specs.Sentences.{deed_words, record_column}
+use Rattle.ace_event_words.specs.declared.deed.Deed.{Deed}
+use Rattle.ace_event_words.specs.declared.transfers.Transfers.{Transfers}
+use Rattle.ace_event_words.specs.declared.transfers.Transfers.TheVariants.{One, Several}
+use Rattle.ace_journal.specs.Marks.{looks_for, marks_by, port_of}
 use Rattle.ace_journal.specs.declared.led.Led.{Led}
+use Rattle.ace_journal.specs.declared.looks.Looks.{Looks}
 use Rattle.ace_journal.specs.declared.rows.Row.{Row}
+use Rattle.ace_model.specs.AddressRules.{is_aligned}
 
 -- the row stands for more than one event
 abbrev pub is_many : Row → Bool
@@ -18,19 +25,29 @@ numbers_text row =
 unfoldable pub right_of : List ℕ → List ℕ
 right_of text = take (9 - length text) (replicate 9 32) ++ text
 
+-- how many transfers the row tells of, if it tells of any
+abbrev pub transfers_of : Row → Transfers
+transfers_of row = if is_many row then Several else One
+
 -- the record, and what it does
-unfoldable pub told_words : Row → List ℕ
-told_words row = record_column row.deed ++ deed_words (is_many row) row.deed
+unfoldable pub told_words : Transfers → Deed → List ℕ
+told_words transfers deed = record_column deed ++ deed_words transfers deed
 
--- a row, behind a mark
-unfoldable pub row_text : List ℕ → Row → List ℕ
-row_text mark row =
-    mark ++ right_of (numbers_text row) ++ codes "  " ++ told_words row ++ codes "\n"
+-- a row behind what it begins with, which tells of so many transfers, up to its marks
+unfoldable pub row_text : List ℕ → Transfers → Row → List ℕ
+row_text start transfers row =
+    start ++ right_of (numbers_text row) ++ codes "  " ++ told_words transfers row.deed
 
--- the line, if there is one
+-- the line, if there is one: the address, where that is of none
 unfoldable pub line_words : Option ℕ → List ℕ
 line_words None = []
-line_words (Some l) = codes ", line " ++ hex_text 8 l
+line_words (Some l) =
+    (if is_aligned l then codes ", line " else codes ", address ") ++ hex_text 8 l
+
+-- the event in words
+unfoldable pub event_words : Led → List ℕ
+event_words d =
+    codes "  " ++ deed_words d.transfers d.own.deed ++ line_words d.line ++ codes "\n"
 
 unfoldable pub heading_words : List ℕ
 heading_words = codes "\n  What led here"
@@ -38,13 +55,28 @@ heading_words = codes "\n  What led here"
 unfoldable pub heading_text : Option ℕ → List ℕ
 heading_text line = heading_words ++ line_words line ++ codes "\n"
 
--- the rows, of which the newest stands first here and is the last in the text
-abbrev pub rows_text : List Row → List ℕ
-rows_text [] = []
-rows_text (row ∷ rows) = rows_text rows ++ row_text (codes "    ") row
+-- the row, behind which these newer ones stand, with its marks
+unfoldable pub marked_row : Looks → ℕ → List Row → Row → List ℕ
+marked_row looks port newer row =
+    row_text (codes "    ") (transfers_of row) row ++ marks_by looks port newer row ++ codes "\n"
 
--- what led to the event, and the event itself; nothing where nothing led there
-unfoldable pub led_text : Led → List ℕ
-led_text d =
+-- the row of the event itself
+unfoldable pub own_row : Led → List ℕ
+own_row d = row_text (codes "  > ") d.transfers d.own ++ codes "\n"
+
+-- the rows that have so many newer ones, of which the newest stands first here and is the last in
+-- the text
+abbrev pub rows_text : Looks → ℕ → List Row → ℕ → List Row → List ℕ
+rows_text looks port all newer [] = []
+rows_text looks port all newer (row ∷ rows) =
+    rows_text looks port all (newer + 1) rows ++ marked_row looks port (take newer all) row
+
+-- what led to the event, which breaks this clause, and the event itself; nothing where nothing led
+-- there
+unfoldable pub led_text : ℕ → Letter → Led → List ℕ
+led_text rule letter d =
     if d.count == 0 then []
-    else heading_text d.line ++ rows_text (take d.count d.rows) ++ row_text (codes "  > ") d.own
+    else heading_text d.line
+    ++ rows_text (looks_for d.line rule letter) (port_of d.own.deed) (take d.count d.rows) 0
+    (take d.count d.rows)
+    ++ own_row d

@@ -1,3 +1,6 @@
 pub mod Journals
 pub mod LedTexts
+pub mod Looks
+pub mod Marks
 pub mod Rows
+pub mod Transfers

@@ -17,9 +17,11 @@ is_alike None other = false
 is_alike (Some k) None = false
 is_alike (Some k) (Some j) = (k.snoop == j.snoop) && (k.dom == j.dom) && (k.bar == j.bar)
 
--- both are transfers of one port: of transactions of one kind and with one response, or of snooped lines
+-- both are transfers of one port: of transactions of one kind and with one response, or of snooped
+-- lines
 abbrev pub continues : Deed → Deed → Bool
-continues (R p kind resp) (R q of_other other) = (p == q) && is_alike kind of_other && (resp == other)
+continues (R p kind resp) (R q of_other other) =
+    (p == q) && is_alike kind of_other && (resp == other)
 continues (W p kind) (W q of_other) = (p == q) && is_alike kind of_other
 continues (Cd p) (Cd q) = p == q
 continues _ _ = false

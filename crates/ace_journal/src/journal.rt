@@ -5,7 +5,7 @@ ghost use Rattle.std.specs.Prelude.{◌≡◌, ◌≤◌, List, length, take};
 use crate::led::Led;
 use crate::rows::{MOST_ROWS, Row, Rows, is_alone, is_kept, put};
 use ace_event::Event;
-use ace_event_words::Deed;
+use ace_event_words::{Deed, Transfers};
 use ace_io::NoMemory;
 use ace_places::LineMap;
 use std::alloc::Global;
@@ -46,6 +46,7 @@ impl Journal {
     ghost use Rattle.ace_event.specs.declared.header.Header.{Header as Head};
     ghost use Rattle.ace_journal.specs.Journals.{IsLed, JournalStands, items_of, rows_at};
     ghost use Rattle.ace_journal.specs.Rows.{put_row, row_of};
+    ghost use Rattle.ace_journal.specs.Transfers.{transfers_in};
     ghost use Rattle.indexmap.specs.IndexMap.{get};
     ghost use Rattle.std.specs.Option.{option_copied};
     ghost use Rattle.ace_model.specs.Trace.{Trace};
@@ -125,15 +126,18 @@ impl Journal {
         }
     }
 
-    /// What led to the event that belongs to this line, if it belongs to one, and has this row.
-    pub fn led(&self, line: Option<u32>, own: Row) -> Led
+    /// What led to the event that belongs to this line, if it belongs to one, has this row, and is
+    /// this transfer.
+    pub fn led(&self, line: Option<u32>, own: Row, transfers: Transfers) -> Led
         ensures { (h : Head) (past : Trace) (e : Occurrence) → JournalStands h past self.now
-            → line ≡ event_line h past e → own ≡ row_of h past e → IsLed h past e result }
+            → line ≡ event_line h past e → own ≡ row_of h past e
+            → transfers ≡ transfers_in h past e → IsLed h past e result }
     {
         let mut led = Led {
             rows: [NO_ROW; MOST_ROWS],
             count: 0,
             own,
+            transfers,
             line,
         };
         if is_alone(&own.deed) {

@@ -2,6 +2,7 @@
 ghost use Rattle.std.specs.Prelude.{◌≤◌};
 
 use crate::rows::{MOST_ROWS, Row};
+use ace_event_words::Transfers;
 
 /// What led to an event.
 #[derive(Clone, Copy)]
@@ -12,6 +13,8 @@ pub struct Led {
     pub count: usize,
     /// The row of the event itself.
     pub own: Row,
+    /// Which transfer the event is.
+    pub transfers: Transfers,
     /// Its line, if it has one.
     pub line: Option<u32>,
     ghost few: { count ≤ 16 },

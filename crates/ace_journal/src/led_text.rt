@@ -1,10 +1,14 @@
 // The text of what led to an event.
-ghost use Rattle.std.specs.Prelude.{◌≡◌, ◌++◌, OnOk};
-ghost use Rattle.ace_journal.specs.LedTexts.{heading_text, heading_words, is_many, led_text, line_words, numbers_text, right_of, row_text, rows_text, told_words};
+ghost use Rattle.std.specs.Prelude.{◌≡◌, ◌++◌, OnOk, codes, if◌then◌else◌};
+ghost use Rattle.ace_journal.specs.LedTexts.{event_words, heading_text, heading_words, is_many, led_text, line_words, marked_row, numbers_text, own_row, right_of, row_text, rows_text, told_words, transfers_of};
+ghost use Rattle.ace_model.specs.AddressRules.{is_aligned};
 
 use crate::led::Led;
+use crate::looks::Looks;
+use crate::marks::{looks_for, port_of, push_marks};
 use crate::rows::Row;
-use ace_event_words::{push_deed, record_column};
+use ace_clauses::Letter;
+use ace_event_words::{Deed, Transfers, push_deed, record_column};
 use ace_io::NoMemory;
 use ace_malformed::{push, push_number};
 use ace_writer::TextBuf;
@@ -43,27 +47,62 @@ fn push_right(text: &mut Vec<u8>, words: &[u8]) -> Result<(), NoMemory>
     push(text, words)
 }
 
-/// Adds the record, and what it does.
-#[tactic(auto, unfolding(crate::specs::LedTexts::told_words))]
-fn push_told(text: &mut Vec<u8>, row: &Row) -> Result<(), NoMemory>
-    ensures { OnOk result (text.new.items ≡ text.old.items ++ told_words row.now) }
+/// How many transfers the row tells of, if it tells of any.
+pub fn transfers_of(row: &Row) -> Transfers
+    ensures { result ≡ transfers_of row.now }
 {
-    push(text, record_column(&row.deed))?;
-    push_deed(text, is_many(row), &row.deed)
+    if is_many(row) {
+        Transfers::Several
+    } else {
+        Transfers::One
+    }
 }
 
-/// Adds a row, behind a mark.
+/// Adds the record, and what it does.
+#[tactic(auto, unfolding(crate::specs::LedTexts::told_words))]
+fn push_told(text: &mut Vec<u8>, transfers: Transfers, deed: &Deed) -> Result<(), NoMemory>
+    ensures { OnOk result (text.new.items ≡ text.old.items ++ told_words transfers deed.now) }
+{
+    push(text, record_column(deed))?;
+    push_deed(text, transfers, deed)
+}
+
+/// Adds a row behind what it begins with, which tells of so many transfers, up to its marks.
 #[tactic(auto, unfolding(crate::specs::LedTexts::row_text))]
-fn push_row(alloc: Global, text: &mut Vec<u8>, mark: &[u8], row: &Row) -> Result<(), NoMemory>
-    ensures { OnOk result (text.new.items ≡ text.old.items ++ row_text mark.now row.now) }
+fn push_row(
+    alloc: Global,
+    text: &mut Vec<u8>,
+    start: &[u8],
+    transfers: Transfers,
+    row: &Row,
+) -> Result<(), NoMemory>
+    ensures { OnOk result (text.new.items
+        ≡ text.old.items ++ row_text start.now transfers row.now) }
 {
     let mut numbers = Vec::new(alloc);
     push_numbers(&mut numbers, row)?;
-    push(text, mark)?;
+    push(text, start)?;
     push_right(text, numbers.as_slice())?;
     push(text, b"  ")?;
-    push_told(text, row)?;
-    push(text, b"\n")
+    push_told(text, transfers, &row.deed)
+}
+
+/// The address is that of a line.
+fn is_aligned(address: u32) -> bool
+    ensures { result ≡ is_aligned address }
+{
+    address % 64 == 0
+}
+
+/// What stands before an address.
+fn address_words(address: u32) -> &'static [u8]
+    ensures { result.now ≡ (if is_aligned address then codes ", line " else codes ", address ") }
+{
+    if is_aligned(address) {
+        b", line "
+    } else {
+        b", address "
+    }
 }
 
 /// Adds the line, if there is one.
@@ -74,10 +113,25 @@ fn push_line(text: &mut Vec<u8>, line: Option<u32>) -> Result<(), NoMemory>
     if let Some(line) = line {
         let mut digits = TextBuf::empty();
         digits.push_digits(8, u128::from(line));
-        push(text, b", line ")?;
+        push(text, address_words(line))?;
         push(text, digits.bytes())?;
     }
     Ok(())
+}
+
+/// Adds the event in words.
+///
+/// # Errors
+///
+/// `NoMemory` where there is none for the longer text.
+#[tactic(auto, unfolding(crate::specs::LedTexts::event_words))]
+pub fn push_event_words(text: &mut Vec<u8>, led: &Led) -> Result<(), NoMemory>
+    ensures { OnOk result (text.new.items ≡ text.old.items ++ event_words led.now) }
+{
+    push(text, b"  ")?;
+    push_deed(text, led.transfers, &led.own.deed)?;
+    push_line(text, led.line)?;
+    push(text, b"\n")
 }
 
 /// What stands before the rows.
@@ -98,31 +152,80 @@ fn push_heading(text: &mut Vec<u8>, line: Option<u32>) -> Result<(), NoMemory>
     push(text, b"\n")
 }
 
+/// Adds the row, behind which these newer ones stand, with its marks.
+#[tactic(auto, unfolding(crate::specs::LedTexts::marked_row))]
+fn push_marked(
+    alloc: Global,
+    text: &mut Vec<u8>,
+    looks: &Looks,
+    port: u8,
+    newer: &[Row],
+    row: &Row,
+) -> Result<(), NoMemory>
+    ensures { OnOk result (text.new.items
+        ≡ text.old.items ++ marked_row looks.now port newer.now row.now) }
+{
+    push_row(alloc, text, b"    ", transfers_of(row), row)?;
+    push_marks(text, looks, port, newer, row)?;
+    push(text, b"\n")
+}
+
 /// Adds the rows, the oldest first.
-fn push_rows(alloc: Global, text: &mut Vec<u8>, rows: &[Row]) -> Result<(), NoMemory>
-    ensures { OnOk result (text.new.items ≡ text.old.items ++ rows_text rows.now) }
+#[tactic(auto, using(crate::proofs::RowSteps::rows_step))]
+fn push_rows(
+    alloc: Global,
+    text: &mut Vec<u8>,
+    looks: &Looks,
+    port: u8,
+    rows: &[Row],
+) -> Result<(), NoMemory>
+    ensures { OnOk result (text.new.items
+        ≡ text.old.items ++ rows_text looks.now port rows.now 0 rows.now) }
 {
     let mut left = rows.len();
     while left > 0 {
         left -= 1;
-        push_row(alloc, text, b"    ", &rows[left])?;
+        push_marked(alloc, text, looks, port, &rows[..left], &rows[left])?;
     }
     Ok(())
 }
 
-/// Adds what led to the event, and the event itself; nothing where nothing led there.
+/// Adds the row of the event itself.
+#[tactic(auto, unfolding(crate::specs::LedTexts::own_row))]
+fn push_own(alloc: Global, text: &mut Vec<u8>, led: &Led) -> Result<(), NoMemory>
+    ensures { OnOk result (text.new.items ≡ text.old.items ++ own_row led.now) }
+{
+    push_row(alloc, text, b"  > ", led.transfers, &led.own)?;
+    push(text, b"\n")
+}
+
+/// Adds what led to the event, which breaks this clause, and the event itself; nothing where
+/// nothing led there.
 ///
 /// # Errors
 ///
 /// `NoMemory` where there is none for the longer text.
 #[tactic(auto, unfolding(crate::specs::LedTexts::led_text))]
-pub fn push_led(alloc: Global, text: &mut Vec<u8>, led: &Led) -> Result<(), NoMemory>
-    ensures { OnOk result (text.new.items ≡ text.old.items ++ led_text led.now) }
+pub fn push_led(
+    alloc: Global,
+    text: &mut Vec<u8>,
+    rule: u8,
+    letter: Letter,
+    led: &Led,
+) -> Result<(), NoMemory>
+    ensures { OnOk result (text.new.items ≡ text.old.items ++ led_text rule letter led.now) }
 {
     if led.count == 0 {
         return Ok(());
     }
+    let looks = looks_for(led.line, rule, letter);
     push_heading(text, led.line)?;
-    push_rows(alloc, text, &led.rows[..led.count])?;
-    push_row(alloc, text, b"  > ", &led.own)
+    push_rows(
+        alloc,
+        text,
+        &looks,
+        port_of(&led.own.deed),
+        &led.rows[..led.count],
+    )?;
+    push_own(alloc, text, led)
 }

@@ -4,9 +4,13 @@
 mod journal;
 mod led;
 mod led_text;
+mod looks;
+mod marks;
 mod rows;
+mod transfers;
 
 pub use journal::Journal;
 pub use led::Led;
-pub use led_text::push_led;
+pub use led_text::{push_event_words, push_led, transfers_of};
 pub use rows::{MOST_ROWS, Row};
+pub use transfers::next_transfers;

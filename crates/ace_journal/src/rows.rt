@@ -10,8 +10,8 @@ use std::collections::VecDeque;
 /// How many rows are kept of a line.
 pub const MOST_ROWS: usize = 16;
 
-/// An event, or transfers one after another: the numbers of the first and the last, from 1, and what
-/// they do.
+/// An event, or transfers one after another: the numbers of the first and the last, from 1, and
+/// what they do.
 #[derive(Clone, Copy)]
 pub struct Row {
     pub first: u64,

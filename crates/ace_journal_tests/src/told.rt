@@ -1,9 +1,10 @@
 // What a journal tells of the events that it has heard.
+use ace_clauses::{ClauseName, Letter};
 use ace_codes::LineState;
 use ace_event::{Channel, Event, Line, Outcome};
-use ace_event_words::deed_of;
+use ace_event_words::{Transfers, deed_of};
 use ace_io::NoMemory;
-use ace_journal::{Journal, Row, push_led};
+use ace_journal::{Journal, Row, push_event_words, push_led};
 use ace_model::Transaction;
 use std::alloc::Global;
 
@@ -39,9 +40,11 @@ fn hear_all(journal: &mut Journal, line: Option<u32>, events: &[Event]) -> Resul
     Ok(())
 }
 
-/// Whether this is told of what led to the event after these, all of one line.
-fn is_told(
+/// Whether this is told of what led to the event after these, all of one line, which breaks the
+/// clause.
+fn is_told_of(
     alloc: Global,
+    clause: ClauseName,
     line: Option<u32>,
     events: &[Event],
     own: &Event,
@@ -49,11 +52,42 @@ fn is_told(
 ) -> Result<bool, NoMemory> {
     let mut journal = Journal::new(alloc);
     let heard = hear_all(&mut journal, line, events);
-    let led = journal.led(line, row(events.len() as u64 + 1, own));
+    let led = journal.led(line, row(events.len() as u64 + 1, own), Transfers::One);
     drop(journal);
     heard?;
     let mut text = Vec::new(alloc);
-    push_led(alloc, &mut text, &led)?;
+    push_led(alloc, &mut text, clause.rule, clause.letter, &led)?;
+    Ok(text.as_slice() == wanted)
+}
+
+/// The same of a clause of which nothing is marked.
+fn is_told(
+    alloc: Global,
+    line: Option<u32>,
+    events: &[Event],
+    own: &Event,
+    wanted: &[u8],
+) -> Result<bool, NoMemory> {
+    let clause = ClauseName {
+        rule: 14,
+        letter: Letter::A,
+    };
+    is_told_of(alloc, clause, line, events, own, wanted)
+}
+
+/// Whether these are the words of an event of the line.
+fn is_worded(
+    alloc: Global,
+    line: Option<u32>,
+    own: &Event,
+    transfers: Transfers,
+    wanted: &[u8],
+) -> Result<bool, NoMemory> {
+    let journal = Journal::new(alloc);
+    let led = journal.led(line, row(1, own), transfers);
+    drop(journal);
+    let mut text = Vec::new(alloc);
+    push_event_words(&mut text, &led)?;
     Ok(text.as_slice() == wanted)
 }
 
@@ -105,6 +139,14 @@ fn cd(port: u8) -> Event {
     }
 }
 
+fn grant() -> Event {
+    Event::G {
+        port: 0,
+        chan: Channel::Read,
+        id: 3,
+    }
+}
+
 fn store() -> Event {
     Event::D {
         port: 0,
@@ -139,7 +181,7 @@ fn tells_the_events_of_a_line(rt: HostRuntime) {
         cd(2),
     ];
     let wanted =
-        b"\n  What led here, line 00000040\n            1  AR  port 0 asks for ReadUnique, identifier 3, exclusive\n          2-4  R   port 0 gets transfers of its ReadUnique, OKAY, PassDirty\n            5  R   port 0 gets a transfer of its ReadUnique, OKAY\n            7  L   port 0 loads word 2, exclusive\n            8  CR  port 1 answers the snoop, state I, data, PassDirty, WasUnique\n         9-10  CD  port 1 sends transfers of the snooped line\n           11  CD  port 2 sends a transfer of the snooped line\n  >        12  D   port 0 stores\n";
+        b"\n  What led here, line 00000040\n            1  AR  port 0 asks for ReadUnique, identifier 3, exclusive\n          2-4  R   port 0 gets transfers of its ReadUnique, OKAY, PassDirty\n            5  R   port 0 gets a transfer of its ReadUnique, OKAY\n            7  L   port 0 loads word 2, exclusive\n            8  CR  port 1 answers the snoop, state I, data, PassDirty, WasUnique\n         9-10  CD  port 1 sends transfers of its snoop data\n           11  CD  port 2 sends a transfer of its snoop data\n  >        12  D   port 0 stores\n";
     assert!(rt;
         matches!(
             is_told(rt.alloc(), Some(64), &events, &store(), wanted),
@@ -166,4 +208,39 @@ fn tells_nothing_where_nothing_led_there(rt: HostRuntime) {
         )
     );
     assert!(rt; matches!(is_told(rt.alloc(), None, &[ar()], &op(), b""), Ok(true)));
+}
+
+#[test]
+fn marks_the_reason(rt: HostRuntime) {
+    let clause = ClauseName {
+        rule: 18,
+        letter: Letter::H,
+    };
+    let events = [ar(), grant(), ar(), grant(), cr()];
+    let wanted =
+        b"\n  What led here, line 00000040\n            1  AR  port 0 asks for ReadUnique, identifier 3, exclusive\n            2  G   port 0 is granted the line for its ReadUnique\n            3  AR  port 0 asks for ReadUnique, identifier 3, exclusive\n            4  G   port 0 is granted the line for its ReadUnique   <- the grant\n            5  CR  port 1 answers the snoop, state I, data, PassDirty, WasUnique   <- passes the dirty line\n  >         6  R   port 0 gets a transfer of its ReadUnique, OKAY\n";
+    assert!(rt;
+        matches!(
+            is_told_of(rt.alloc(), clause, Some(64), &events, &r(0), wanted),
+            Ok(true)
+        )
+    );
+}
+
+#[test]
+fn tells_an_event_in_words(rt: HostRuntime) {
+    let second = Transfers::Nth {
+        number: 2,
+        beats: 4,
+    };
+    let read = b"  port 0 gets transfer 2 of 4 of its ReadUnique, OKAY, line 00000040\n";
+    let snooped = b"  port 1 sends a transfer of its snoop data, address 00000041\n";
+    let alloc = rt.alloc();
+    assert!(rt; matches!(is_worded(alloc, Some(64), &r(0), second, read), Ok(true)));
+    assert!(rt;
+        matches!(
+            is_worded(alloc, Some(65), &cd(1), Transfers::One, snooped),
+            Ok(true)
+        )
+    );
 }

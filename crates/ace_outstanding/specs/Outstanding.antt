@@ -1,4 +1,5 @@
--- The transactions that are outstanding at the end of a trace: which were issued, and have not ended.
+-- The transactions that are outstanding at the end of a trace: which were issued, and have not
+-- ended.
 use Rattle.std.specs.Prelude.{ℕ, List, filter, length}
 use Rattle.ace_event.specs.declared.header.Header.{Header}
 use Rattle.ace_model.specs.Progress.{transactions}

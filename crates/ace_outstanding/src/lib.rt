@@ -1,5 +1,5 @@
-//! The transactions that are outstanding at the end of a trace: how many there are, and what is said
-//! of them.
+//! The transactions that are outstanding at the end of a trace: how many there are, and what is
+//! said of them.
 #![tactic(auto)]
 
 mod count;

@@ -1,5 +1,6 @@
--- What an event after a trace shows: at most five points.
-use Rattle.std.specs.Prelude.{ℕ, Bool, ◌&&◌, if◌then◌else◌, List, [], ◌∷◌, length, Option, Some, None, is_some, option_map, option_and_then}
+-- What an event after a trace shows: at most five rows of tables, the rules that it asks, and
+-- situations.
+use Rattle.std.specs.Prelude.{ℕ, Bool, ◌&&◌, if◌then◌else◌, List, [], ◌∷◌, ◌++◌, length, Option, Some, None, is_some, option_map, option_and_then}
 use Rattle.ace_codes.specs.Responses.{is_shared, passes_dirty}
 use Rattle.ace_codes.specs.Snoops.{ac_kind_of}
 use Rattle.ace_codes.specs.declared.kind.ArKind.{ArKind}
@@ -22,8 +23,11 @@ use Rattle.ace_model.specs.declared.snoops.Snoop.{Snoop}
 use Rattle.ace_model.specs.declared.transactions.Transaction.{Transaction}
 use Rattle.ace_portck.specs.Targets.{served_in, transaction_in}
 use Rattle.ace_portck.specs.declared.target.Progress.{Progress}
+use Rattle.ace_points.specs.Asked.{asked}
+use Rattle.ace_points.specs.Situations.{met}
 use Rattle.ace_points.specs.declared.point.Point.{Point}
 use Rattle.ace_points.specs.declared.point.Point.TheVariants.{Read, Write, Exclusive, ExclusiveStore, Barrier, SecondPart, Sync, Bar, Domain, ReadStart, WriteStart, ReadEnd, WriteEnd, Answer, AnswerWithUpdate, Silent}
+use Rattle.ace_points.specs.declared.showing.PointsShown.{PointsShown}
 
 -- the kind that is issued, by an ACE port or another
 abbrev pub kind_shown : Bool → Option ArKind → Option AwKind → Option Point
@@ -42,15 +46,18 @@ barrier_shown ace x (Some kind) = if is_read_barrier kind then Some (Barrier ace
 
 -- a second part of a DVM message, where a first one waits for it; a Sync
 abbrev pub part_shown : Bool → Transaction → Option Point
-part_shown waits x = if waits then Some SecondPart else if is_sync_word x.addr then Some Sync else None
+part_shown waits x =
+    if waits then Some SecondPart else if is_sync_word x.addr then Some Sync else None
 
 abbrev pub message_shown : Trace → Transaction → Option Point
-message_shown past x = if is_message_part x then part_shown (is_some (first_waiting past x.port)) x else None
+message_shown past x =
+    if is_message_part x then part_shown (is_some (first_waiting past x.port)) x else None
 
 -- what is special of the transaction that is issued
 abbrev pub special_shown : Header → Trace → Transaction → Option Point
 special_shown h past x =
-    newer (exclusive_shown x) (newer (barrier_shown (is_ace h x.port) x (read_kind x)) (message_shown past x))
+    newer (exclusive_shown x) (newer (barrier_shown (is_ace h x.port) x (read_kind x))
+    (message_shown past x))
 
 -- the state from which a line transaction starts
 abbrev pub start_shown : LineState → Option ArKind → Option AwKind → Option Point
@@ -76,7 +83,9 @@ both_shown first second = first ∷ second ∷ None ∷ None ∷ None ∷ []
 abbrev pub read_end_of : Header → Trace → LineState → Progress → ArKind → Option Point
 read_end_of h past st x kind =
     if is_line_read kind
-    then Some (ReadEnd kind (has_failed past x.transaction) (state_of h past x.transaction.port x.transaction.addr) (is_shared x.response) (passes_dirty x.response) st)
+    then Some (ReadEnd kind (has_failed past x.transaction)
+    (state_of h past x.transaction.port x.transaction.addr) (is_shared x.response)
+    (passes_dirty x.response) st)
     else None
 
 abbrev pub read_end_shown : Header → Trace → LineState → Progress → Option Point
@@ -84,14 +93,16 @@ read_end_shown h past st x = option_and_then (read_end_of h past st x) (read_kin
 
 -- a line write ends in the state
 abbrev pub write_end_of : Header → Trace → LineState → Transaction → AwKind → Option Point
-write_end_of h past st x kind = if is_line_write kind then Some (WriteEnd kind (state_of h past x.port x.addr) st) else None
+write_end_of h past st x kind =
+    if is_line_write kind then Some (WriteEnd kind (state_of h past x.port x.addr) st) else None
 
 abbrev pub write_end_shown : Header → Trace → LineState → Transaction → Option Point
 write_end_shown h past st x = option_and_then (write_end_of h past st x) (write_kind x)
 
 -- an exclusive store has its grant
 abbrev pub grant_shown : Trace → Transaction → Option Point
-grant_shown past x = if is_exclusive_store x then Some (ExclusiveStore (store_passes past x)) else None
+grant_shown past x =
+    if is_exclusive_store x then Some (ExclusiveStore (store_passes past x)) else None
 
 -- the state in which the port holds the line of a snoop of this kind: a DVM snoop has no line
 abbrev pub held_at : Header → Trace → ℕ → Snoop → SnoopKind → LineState
@@ -101,9 +112,11 @@ held_at h past p s kind = if is_line_snoop kind then state_of h past p s.addr el
 abbrev pub answer_of : Header → Trace → ℕ → ℕ → LineState → Snoop → SnoopKind → List (Option Point)
 answer_of h past p resp st s kind =
     both_shown (Some (Answer kind (held_at h past p s kind) resp st))
-    (if is_line_snoop kind && has_update h past p s.addr then Some (AnswerWithUpdate kind (held_at h past p s kind) resp st) else None)
+    (if is_line_snoop kind && has_update h past p s.addr
+    then Some (AnswerWithUpdate kind (held_at h past p s kind) resp st) else None)
 
-abbrev pub answer_by_kind : Header → Trace → ℕ → ℕ → LineState → Snoop → Option SnoopKind → List (Option Point)
+abbrev pub answer_by_kind : Header → Trace → ℕ → ℕ → LineState
+    → Snoop → Option SnoopKind → List (Option Point)
 answer_by_kind h past p resp st s None = both_shown None None
 answer_by_kind h past p resp st s (Some kind) = answer_of h past p resp st s kind
 
@@ -115,13 +128,27 @@ abbrev pub issued_shown : Header → Trace → Option Transaction → List (Opti
 issued_shown h past None = both_shown None None
 issued_shown h past (Some x) = issue_shown h past x
 
--- what the event shows
+-- the rows of the tables that the event shows
+abbrev pub rows_shown : Header → Trace → Event → List (Option Point)
+rows_shown h past (event.Ar p i addr snoop dom bar lock) =
+    issued_shown h past (issued (length past) (event.Ar p i addr snoop dom bar lock))
+rows_shown h past (event.Aw p i addr snoop dom bar) =
+    issued_shown h past (issued (length past) (event.Aw p i addr snoop dom bar))
+rows_shown h past (event.G p c i) =
+    both_shown (option_and_then (grant_shown past) (outstanding h past p c i)) None
+rows_shown h past (event.Rk p st) =
+    both_shown (option_and_then (read_end_shown h past st) (transaction_in h past (event.Rk p st)))
+    None
+rows_shown h past (event.Wk p st) =
+    both_shown (option_and_then (write_end_shown h past st) (served_in h past (event.Wk p st))) None
+rows_shown h past (event.Cr p resp st) = answer_shown h past p resp st (answered past p)
+rows_shown h past (event.S p addr st) = both_shown (Some (Silent (state_of h past p addr) st)) None
+rows_shown h past _ = both_shown None None
+
+-- what there is of the lists
+abbrev pub points_of : PointsShown → List (Option Point)
+points_of s = s.rows ++ (s.rules ++ s.situations)
+
+-- what the event shows: rows of the tables, rules that it asks in earnest, and situations
 abbrev pub shown : Header → Trace → Event → List (Option Point)
-shown h past (event.Ar p i addr snoop dom bar lock) = issued_shown h past (issued (length past) (event.Ar p i addr snoop dom bar lock))
-shown h past (event.Aw p i addr snoop dom bar) = issued_shown h past (issued (length past) (event.Aw p i addr snoop dom bar))
-shown h past (event.G p c i) = both_shown (option_and_then (grant_shown past) (outstanding h past p c i)) None
-shown h past (event.Rk p st) = both_shown (option_and_then (read_end_shown h past st) (transaction_in h past (event.Rk p st))) None
-shown h past (event.Wk p st) = both_shown (option_and_then (write_end_shown h past st) (served_in h past (event.Wk p st))) None
-shown h past (event.Cr p resp st) = answer_shown h past p resp st (answered past p)
-shown h past (event.S p addr st) = both_shown (Some (Silent (state_of h past p addr) st)) None
-shown h past _ = both_shown None None
+shown h past e = rows_shown h past e ++ (asked h past e ++ met h past e)

@@ -3,6 +3,7 @@ ghost use Rattle.std.specs.Prelude.{◌≡◌};
 ghost use Rattle.ace_tables.specs.States.{same_state};
 ghost use Rattle.ace_points.specs.Same.{same_point, same_read, same_snoop, same_write};
 
+use crate::situation::{Situation, same_situation};
 use ace_codes::{ArKind, AwKind, LineState, SnoopKind};
 
 /// A point of coverage: what an event of a trace can show.
@@ -89,6 +90,14 @@ pub enum Point {
     Silent {
         from: LineState,
         to: LineState,
+    },
+    /// A situation comes about.
+    Met {
+        situation: Situation,
+    },
+    /// A rule, K4 to K40, is asked in earnest: what else there is leaves room for another answer.
+    Rule {
+        rule: u8,
     },
 }
 
@@ -203,6 +212,8 @@ pub fn same_point(point: &Point, other: &Point) -> bool
         ) => same_snoop(kind, k) && same_state(held, h) && resp == r && same_state(next, n),
         (Point::Silent { from, to }, Point::Silent { from: f, to: t }) => same_state(from, f)
             && same_state(to, t),
+        (Point::Rule { rule }, Point::Rule { rule: r }) => rule == r,
+        (Point::Met { situation }, Point::Met { situation: s }) => same_situation(situation, s),
         _ => false,
     }
 }

@@ -1,9 +1,10 @@
-// The points that there are, in groups, as rows. What is proved of each list is that it has the rows
-// of the tables, in their order.
+// The points that there are, in groups, as rows. What is proved of each list is that it has the
+// rows of the tables, in their order.
 ghost use Rattle.std.specs.Prelude.{◌≡◌};
-ghost use Rattle.ace_points.specs.Points.{answer_points, read_end_points, silent_points, start_points, transaction_points, update_points, write_end_points};
+ghost use Rattle.ace_points.specs.Points.{answer_points, read_end_points, rule_points, silent_points, situation_points, start_points, transaction_points, update_points, write_end_points};
 
 use crate::point::Point;
+use crate::situation::Situation;
 use ace_codes::{ArKind, AwKind, LineState, SnoopKind};
 
 /// The kinds of transactions.
@@ -11,7 +12,8 @@ pub fn transaction_points() -> &'static [Point]
     ensures { result.now ≡ transaction_points }
 {
     macro_rules! points {
-        (ACE: $($read:ident)*; $($write:ident)*; ACE-Lite: $($lite_read:ident)*; $($lite_write:ident)*; $($point:expr),*) => {
+        (ACE: $($read:ident)*; $($write:ident)*; ACE-Lite: $($lite_read:ident)*;
+            $($lite_write:ident)*; $($point:expr),*) => {
             &[
                 $(Point::Read { ace: true, kind: ArKind::$read },)*
                 $(Point::Write { ace: true, kind: AwKind::$write },)*
@@ -68,13 +70,14 @@ pub fn start_points() -> &'static [Point]
     )
 }
 
-/// The ends of reads: the kind, the state held, IsShared, PassDirty, whether it is an exclusive store
-/// that failed, and the state at the end.
+/// The ends of reads: the kind, the state held, IsShared, PassDirty, whether it is an exclusive
+/// store that failed, and the state at the end.
 pub fn read_end_points() -> &'static [Point]
     ensures { result.now ≡ read_end_points }
 {
     macro_rules! points {
-        ($($kind:ident $held:ident $shared:literal $dirty:literal $failed:literal $end:ident,)*) => {
+        ($($kind:ident $held:ident $shared:literal $dirty:literal $failed:literal $end:ident,)*)
+        => {
             &[$(Point::ReadEnd {
                 kind: ArKind::$kind,
                 failed: $failed,
@@ -246,5 +249,39 @@ pub fn silent_points() -> &'static [Point]
     }
     points!(
         UC I, UC SC, UD SD, SC I,
+    )
+}
+
+/// The rules, K4 to K40.
+pub fn rule_points() -> &'static [Point]
+    ensures { result.now ≡ rule_points }
+{
+    macro_rules! points {
+        ($($rule:literal)*) => {
+            &[$(Point::Rule { rule: $rule }),*]
+        };
+    }
+    points!(
+        4 5 6 7 8 9 10 11 12 13 14 15 16 17 18 19 20 21 22 23 24 25 26 27 28 29 30 31 32 33 34 35
+        36 37 38 39 40
+    )
+}
+
+/// The situations.
+pub fn situation_points() -> &'static [Point]
+    ensures { result.now ≡ situation_points }
+{
+    macro_rules! points {
+        ($($situation:ident)*) => {
+            &[$(Point::Met { situation: Situation::$situation }),*]
+        };
+    }
+    points!(
+        WaitsForGrant ThreeWantLine SnoopMeetsWriteBack SnoopMeetsWriteClean SnoopMeetsWriteEvict
+        CleanUniqueLosesLine MakeUniqueLosesLine StorePassesRival DirtyLinePassed
+        PassedLineWritten WriteUniqueMerged ReadMeetsStore TwoPortsSend DirtyOwnerAndSharer
+        ThreeHolders WriteEvictBesideGrant AnswersOutOfOrder SnoopWaits TwoWritesSend BarrierWaits
+        BarrierIgnored MessageWaits SyncOfThree DirtyLineDropped BytesLeftOut LoadAfterSnoop
+        OperationFails OperationSkipped MemoryOpens SixteenOutstanding
     )
 }

@@ -2,4 +2,6 @@
 #![tactic(auto)]
 
 #[cfg(test)]
+mod covering;
+#[cfg(test)]
 mod scripts;

@@ -30,7 +30,8 @@ fn is_malformed(read: Result<Plan, PlanErr>, line: u64, reason: Reason) -> bool 
     }
 }
 
-/// How many of the texts, which bars part, are malformed so behind a header, up to the first that isn't.
+/// How many of the texts, which bars part, are malformed so behind a header, up to the first that
+/// isn't.
 fn refused(alloc: Global, texts: &[u8], line: u64, reason: Reason) -> usize {
     texts
         .split(|byte| *byte == b'|')
@@ -38,7 +39,8 @@ fn refused(alloc: Global, texts: &[u8], line: u64, reason: Reason) -> usize {
         .count()
 }
 
-/// How many of the texts, which bars part, are malformed so with nothing before them, up to the first that isn't.
+/// How many of the texts, which bars part, are malformed so with nothing before them, up to the
+/// first that isn't.
 fn headless(alloc: Global, texts: &[u8], line: u64, reason: Reason) -> usize {
     texts
         .split(|byte| *byte == b'|')
@@ -171,7 +173,8 @@ fn has_text(alloc: Global, plan: &Plan, text: &[u8]) -> bool {
     }
 }
 
-/// Reads the script of each operation from a source, and says whether it was read and is written again.
+/// Reads the script of each operation from a source, and says whether it was read and is written
+/// again.
 fn reads_each<S: Source>(alloc: Global, source: &mut S) -> bool {
     match Plan::read(alloc, source) {
         Ok(plan) => has_text(alloc, &plan, EACH),
@@ -204,7 +207,8 @@ fn fault_at(alloc: Global, failing: u32) -> Result<Option<PlanErr>, NoMemory> {
     Ok(Plan::read(alloc, &mut source).err())
 }
 
-/// Each take of a source that gives 100 bytes at once fails in turn, up to the one that finds the end.
+/// Each take of a source that gives 100 bytes at once fails in turn, up to the one that finds the
+/// end.
 #[test]
 fn tells_read_faults(rt: HostRuntime) -> Result<(), Fail> {
     let alloc = rt.alloc();
@@ -227,14 +231,16 @@ fn front_of(alloc: Global, n: u64, room: usize) -> Result<(bool, Vec<u8>), Fail>
 const FRONT: &[u8] =
     b"ACE SCRIPT 1\nPORTS AAAL\nCACHE 4\nPOLICY mixed 000000000000002a\n1 cs 00001180\n0 mb\n0 ld 00001140 3\n";
 
-/// Whether the text of the plan of 42 is whole, how many lines it has, and whether it has its front.
+/// Whether the text of the plan of 42 is whole, how many lines it has, and whether it has its
+/// front.
 fn whole_text(alloc: Global) -> Result<(bool, usize, bool), Fail> {
     let (whole, text) = front_of(alloc, 42, 100_000)?;
     let lines = text.iter().filter(|byte| **byte == b'\n').count();
     Ok((whole, lines, text.starts_with(FRONT)))
 }
 
-/// Whether a sink with room for 5,000 bytes has the whole text, how many bytes it has, and whether the text begins with them.
+/// Whether a sink with room for 5,000 bytes has the whole text, how many bytes it has, and whether
+/// the text begins with them.
 fn cut_text(alloc: Global) -> Result<(bool, usize, bool), Fail> {
     let (_, text) = front_of(alloc, 42, 100_000)?;
     let (whole, part) = front_of(alloc, 42, 5000)?;
@@ -276,7 +282,8 @@ fn grown(alloc: Global) -> Result<Plan, NoMemory> {
     Ok(plan)
 }
 
-/// The counts of a plan with room for two operations, and whether its copy stays the same when an operation is pushed to it.
+/// The counts of a plan with room for two operations, and whether its copy stays the same when an
+/// operation is pushed to it.
 fn copy_stays(alloc: Global) -> Result<((u16, u16), bool), NoMemory> {
     let mut plan = Plan::blank(alloc, PORTS, 3, PolicyWord::Eager, 2)?;
     let before = counts(&plan);
@@ -329,7 +336,8 @@ fn writes_what_grew(rt: HostRuntime) -> Result<(), Fail> {
     Ok(())
 }
 
-/// Whether the plan that is read from the text of one that grew is the same as that one, which has more room.
+/// Whether the plan that is read from the text of one that grew is the same as that one, which has
+/// more room.
 fn read_is_same(alloc: Global) -> Result<bool, Fail> {
     let read = Plan::read(alloc, &mut HonestSource::new(GROWN))?;
     let plan = grown(alloc)?;

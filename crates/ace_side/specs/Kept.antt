@@ -21,7 +21,8 @@ is_later (Some last) event = nat_lt last event
 abbrev pub permits : Order → SideLine → Bool
 permits o (TimeUnit _) = not o.has_unit && is_none o.time
 permits o (Port port _) = not (contains nat_eq o.ports port)
-permits o (Addr addr real) = not (contains nat_eq o.addrs addr) && not (contains nat_eq o.reals real.value)
+permits o (Addr addr real) =
+    not (contains nat_eq o.addrs addr) && not (contains nat_eq o.reals real.value)
 permits o (Time event time) = nat_le o.event event && is_after o.time event time
 permits o (Id event _) = nat_le o.event event && is_later o.id event
 permits o (Note event _) = nat_le o.event event

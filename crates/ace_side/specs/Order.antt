@@ -20,14 +20,15 @@ abbrev pub rises : Option ℕ → Option ℕ → Bool
 rises (Some one) (Some other) = nat_le one other
 rises _ _ = true
 
--- Whether the second line may stand somewhere behind the first. One unit, before any time; one name of a port; one real
--- address of an address, and one address of it; one time of an event, and times that don't fall; one identifier of an event;
--- and the events of lines don't fall.
+-- Whether the second line may stand somewhere behind the first. One unit, before any time; one name
+-- of a port; one real address of an address, and one address of it; one time of an event, and times
+-- that don't fall; one identifier of an event; and the events of lines don't fall.
 abbrev pub allows : SideLine → SideLine → Bool
 allows (TimeUnit _) (TimeUnit _) = false
 allows (Time _ _) (TimeUnit _) = false
 allows (Port one _) (Port other _) = not (one == other)
-allows (Addr one real) (Addr other other_real) = not (one == other) && not (real.value == other_real.value)
+allows (Addr one real) (Addr other other_real) =
+    not (one == other) && not (real.value == other_real.value)
 allows (Time one time) (Time other later) = nat_lt one other && nat_le time later
 allows (Id one _) (Id other _) = nat_lt one other
 allows one other = rises (event_of one) (event_of other)

@@ -40,6 +40,8 @@ fields_behind (Cut count) = decimal count ∷ []
 
 -- The line of this kind with these fields was read, or there is none, for this reason.
 abbrev pub IsReadBehind : LineKind → List (List ℕ) → Result SideLine Reason → Type 0
-IsReadBehind kind fields (Ok line) = Fits line × (kind_of line ≡ kind) × (fields_behind line ≡ fields)
+IsReadBehind kind fields (Ok line) =
+    Fits line × (kind_of line ≡ kind) × (fields_behind line ≡ fields)
 IsReadBehind kind fields (Err reason) =
-    (reason ≡ reason_behind (Some kind) fields) × ((line : SideLine) → Fits line → kind_of line ≡ kind → fields_behind line ≢ fields)
+    (reason ≡ reason_behind (Some kind) fields) × ((line : SideLine)
+    → Fits line → kind_of line ≡ kind → fields_behind line ≢ fields)

@@ -20,7 +20,8 @@ abbrev pub source_of : {S : Type 0} {g : Ghosts S} → SideReader S g → MutBor
 source_of reader = lines.source_of reader.lines
 
 -- the bytes that were not read as lines, where its source tells what it has left
-abbrev pub unread : {S : Type 0} {g : Ghosts S} → (S → Option (List ℕ)) → SideReader S g → Option (List ℕ)
+abbrev pub unread : {S : Type 0} {g : Ghosts S} → (S → Option (List ℕ))
+    → SideReader S g → Option (List ℕ)
 unread left reader = lines.waiting left reader.lines
 
 -- how far it has come
@@ -39,22 +40,28 @@ answer_at Reading = None
 answer_at Ended = Some (Ok None)
 answer_at (Failed error) = Some (Err error)
 
--- the number of the line behind these, up to the last number of 64 bits; the first line of a file has the number 1
+-- the number of the line behind these, up to the last number of 64 bits; the first line of a file
+-- has the number 1
 abbrev pub number_behind : List SideLine → ℕ
 number_behind past = min (length past + 2) (2 ^ 64 - 1)
 
--- Of what the source had left at first, the reader has read the first line and these, the newest first, and no more.
-pub record HasRead {S : Type 0} {g : Ghosts S} (left : S → Option (List ℕ)) (first : Option (List ℕ)) (past : List SideLine) (reader : SideReader S g) : Type 0 where
+-- Of what the source had left at first, the reader has read the first line and these, the newest
+-- first, and no more.
+pub record HasRead {S : Type 0} {g : Ghosts S} (left : S → Option (List ℕ))
+    (first : Option (List ℕ)) (past : List SideLine) (reader : SideReader S g) : Type 0 where
   pub lines : AreLines past
   pub stands : Stands past reader.order
   pub counted : reader.number ≡ number_behind past
   pub text : Consumes first (unread left reader) (side_file past)
 
--- The answer of a reader that had read these lines is that of their reading: one more line, or how they end.
-abbrev pub IsReading : {S : Type 0} {g : Ghosts S} → (S → Option (List ℕ)) → Option (List ℕ) → List SideLine → SideReader S g → Result (Option SideLine) SideErr → Type 0
+-- The answer of a reader that had read these lines is that of their reading: one more line, or how
+-- they end.
+abbrev pub IsReading : {S : Type 0} {g : Ghosts S} → (S → Option (List ℕ))
+    → Option (List ℕ) → List SideLine → SideReader S g → Result (Option SideLine) SideErr → Type 0
 IsReading left first past new (Ok (Some line)) = HasRead left first (line ∷ past) new
 IsReading left first past new (Ok None) = IfTold first (λ bytes. Reads bytes past Whole)
 IsReading left first past new (Err (Malformed number reason)) =
-    (number ≡ number_behind past) × IfTold first (λ bytes. Reads bytes past (Bad (length past + 2) reason))
+    (number ≡ number_behind past) × IfTold first
+    (λ bytes. Reads bytes past (Bad (length past + 2) reason))
 IsReading left first past new (Err ReadFault) = ⊤
 IsReading left first past new (Err NoMemory) = ⊤

@@ -14,17 +14,21 @@ use Rattle.ace_side.specs.Order.{order_reason}
 abbrev pub HasBadStart : List ℕ → Type 0
 HasBadStart bytes = ¬ BeginsWith bytes (line_text first_text)
 
--- A line, without its line feed, has this reason behind these lines, the least that applies: by itself, or by those.
+-- A line, without its line feed, has this reason behind these lines, the least that applies: by
+-- itself, or by those.
 abbrev pub HasReason : List SideLine → List ℕ → Reason → Type 0
 HasReason past bytes reason =
-    IsNoLine bytes reason ⊎ ((line : SideLine) × IsTextOf line bytes × (order_reason past line ≡ Some reason))
+    IsNoLine bytes reason ⊎ ((line : SideLine) × IsTextOf line bytes
+    × (order_reason past line ≡ Some reason))
 
 -- A line stands at the front, behind these, and it is malformed for this reason.
 abbrev pub HasBadLine : List SideLine → List ℕ → Reason → Type 0
 HasBadLine past bytes reason =
-    ((reason ≡ S1) × (bytes ≢ []) × HasNoLine bytes) ⊎ ((line : List ℕ) × IsFirstLine line bytes × HasReason past line reason)
+    ((reason ≡ S1) × (bytes ≢ []) × HasNoLine bytes)
+    ⊎ ((line : List ℕ) × IsFirstLine line bytes × HasReason past line reason)
 
--- The line can stand behind these: its fields have their forms, and with its line feed it has at most 256 bytes.
+-- The line can stand behind these: its fields have their forms, and with its line feed it has at
+-- most 256 bytes.
 abbrev pub CanStand : List SideLine → SideLine → Type 0
 CanStand past line = Fits line × (length (side_text line) < 256) × (order_reason past line ≡ None)
 
@@ -42,7 +46,8 @@ abbrev pub Ends : List SideLine → Ending → List ℕ → Type 0
 Ends past Whole rest = rest ≡ []
 Ends past (Bad number reason) rest = (number ≡ length past + 2) × HasBadLine past rest reason
 
--- The bytes are the text of these lines of a side file, the newest first, and then end so. Bytes with a bad first line have no such reading.
+-- The bytes are the text of these lines of a side file, the newest first, and then end so. Bytes
+-- with a bad first line have no such reading.
 pub record Reads (bytes : List ℕ) (past : List SideLine) (end : Ending) : Type 0 where
   pub lines : AreLines past
   pub text : (rest : List ℕ) × (bytes ≡ side_file past ++ rest) × Ends past end rest

@@ -25,10 +25,12 @@ last_words = (codes "END", End) ∷ (codes "BROKEN", Broken) ∷ (codes "CUT", C
 
 abbrev pub words : List (List ℕ × LineKind)
 words =
-    (codes "T", Time) ∷ (codes "ID", Id) ∷ (codes "NOTE", Note) ∷ (codes "ADDR", Addr) ∷ (codes "WORD", Word) ∷ (codes "PORT", Port)
+    (codes "T", Time) ∷ (codes "ID", Id) ∷ (codes "NOTE", Note) ∷ (codes "ADDR", Addr)
+    ∷ (codes "WORD", Word) ∷ (codes "PORT", Port)
     ∷ (codes "UNIT", TimeUnit) ∷ last_words
 
--- whether so many fields stand behind the word; a name and a text, which may hold spaces, are one or more
+-- whether so many fields stand behind the word; a name and a text, which may hold spaces, are one
+-- or more
 abbrev pub has_count : LineKind → ℕ → Bool
 has_count Time count = count == 2
 has_count Id count = count == 2
@@ -38,8 +40,8 @@ has_count Word count = count == 2
 has_count Port count = nat_le 2 count
 has_count _ count = count == 1
 
--- why a line is the text of none, by its word and the fields behind it: no such word, another number of fields, or else a
--- field of another form
+-- why a line is the text of none, by its word and the fields behind it: no such word, another
+-- number of fields, or else a field of another form
 abbrev pub reason_behind : Option LineKind → List (List ℕ) → Reason
 reason_behind None fields = S2
 reason_behind (Some kind) fields = if has_count kind (length fields) then S4 else S3
@@ -54,4 +56,6 @@ IsTextOf line bytes = Fits line × (side_text line ≡ bytes)
 
 -- They are the text of no line, for this reason.
 abbrev pub IsNoLine : List ℕ → Reason → Type 0
-IsNoLine bytes reason = ((line : SideLine) → ¬ IsTextOf line bytes) × (reason ≡ form_reason (slice_split (λ byte. byte == 32) bytes))
+IsNoLine bytes reason =
+    ((line : SideLine) → ¬ IsTextOf line bytes)
+    × (reason ≡ form_reason (slice_split (λ byte. byte == 32) bytes))

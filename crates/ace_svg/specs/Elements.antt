@@ -1,4 +1,5 @@
--- The elements of a picture, as text. A class names how an element looks, by the style of the picture.
+-- The elements of a picture, as text. A class names how an element looks, by the style of the
+-- picture.
 use Rattle.std.specs.Prelude.{ℕ, ◌++◌, List, codes, decimal}
 use Rattle.ace_svg.specs.Escaping.{escaped}
 use Rattle.ace_svg.specs.declared.geometry.Point.{Point}

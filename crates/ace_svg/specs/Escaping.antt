@@ -1,4 +1,5 @@
--- Words in a picture: what XML gives another meaning is written by its name, and what isn't printable ASCII is a question mark.
+-- Words in a picture: what XML gives another meaning is written by its name, and what isn't
+-- printable ASCII is a question mark.
 use Rattle.std.specs.Prelude.{ℕ, ◌==◌, ◌&&◌, if◌then◌else◌, nat_le, List, [], ◌∷◌, codes, flat_map}
 
 unfoldable pub escaped_byte : ℕ → List ℕ

@@ -3,7 +3,9 @@ use Rattle.std.proofs.Common.{◌≡◌, ◌<◌, ◌+◌, ◌∷◌, ℕ, List,
 use Rattle.std.proofs.lemmas.List.{drop_more}
 use Rattle.std.specs.declared.alloc.Global.{Global}
 use Rattle.ace_tool.specs.ChartAsked.{AsksChart, ChartAsked, ChartSoFar, IsChartAsked, nothing_to_draw, with_drawn, with_drawn_all}
+use Rattle.ace_chart_rows.specs.declared.selection.Selection.{Selection}
 use Rattle.ace_tool.specs.ChartOptions.{AreRows, line_said}
+use Rattle.ace_tool.specs.ChartSelected.{Selects}
 
 -- behind a word that is wrong nothing is asked
 pub all_wrong : (rest : List (List ℕ)) → with_drawn_all None rest ≡ None
@@ -50,4 +52,8 @@ no_line asked chart none is =
 pub no_rows : (asked : ChartSoFar) (chart : ChartAsked) → ((rows : ℕ) → ¬ AreRows asked.given.rows rows) → ¬ IsChartAsked asked chart
 no_rows asked chart none is = none chart.rows is.rows
 
-pub ruleset refusals = (no_line, no_rows)
+-- or for the events that are selected
+pub no_selection : (asked : ChartSoFar) (chart : ChartAsked) → ((s : Selection) → ¬ Selects asked.given s) → ¬ IsChartAsked asked chart
+no_selection asked chart none is = none chart.selection is.selection
+
+pub ruleset refusals = (no_line, no_rows, no_selection)

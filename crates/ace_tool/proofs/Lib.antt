@@ -1,6 +1,7 @@
 pub mod BatchDone
 pub mod BatchNumbers
 pub mod BatchWordSteps
+pub mod ChartSelections
 pub mod ChartWordSteps
 pub mod Checking
 pub mod Concluding

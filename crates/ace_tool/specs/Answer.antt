@@ -38,7 +38,8 @@ DoesPart holds HelpOfExplain input left out out' = AppendsPart out out' explain_
 DoesPart holds HelpOfRule input left out out' = AppendsPart out out' rule_help
 DoesPart holds Version input left out out' = AppendsPart out out' version
 DoesPart holds (Check check) input left out out' = ChecksSome holds check input left out out'
-DoesPart holds (Explain explain) input left out out' = ExplainsPart holds explain input left out out'
+DoesPart holds (Explain explain) input left out out' =
+    ExplainsPart holds explain input left out out'
 DoesPart holds (Pages text) input left out out' = AppendsPart out out' text
 
 -- how the command of this name is used, or where there is none of it all

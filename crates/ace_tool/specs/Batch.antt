@@ -23,7 +23,8 @@ abbrev pub WritesIf : Option (List ℕ) → List ℕ → Log → Log → Type 0
 WritesIf None text written written' = WritesNone written written'
 WritesIf (Some name) text written written' = Writes written written' name text
 
--- These are the results of the traces that are asked for: one for each, in their order, that is right of what the files hold.
+-- These are the results of the traces that are asked for: one for each, in their order, that is
+-- right of what the files hold.
 pub record AreResults (asked : BatchAsked) (holds knows : List ℕ → Held) (input : Option (List ℕ))
     (entries : List Entry) : Type 0 where
   pub paths : List (List ℕ)
@@ -33,25 +34,31 @@ pub record AreResults (asked : BatchAsked) (holds knows : List ℕ → Held) (in
 -- The files that were asked for were written.
 abbrev pub WritesBoth : BatchAsked → List ℕ → List ℕ → Log → Log → Type 0
 WritesBoth asked json junit written written' =
-    (between : Log) × WritesIf asked.extras.json json written between × WritesIf asked.extras.junit junit between written'
+    (between : Log) × WritesIf asked.extras.json json written between
+    × WritesIf asked.extras.junit junit between written'
 
 -- These texts were told, and the files that were asked for were written.
-abbrev pub TellsTexts : BatchAsked → List ℕ → List ℕ → List ℕ → Option (List ℕ) → Option (List ℕ) → Log → Log → Type 0
+abbrev pub TellsTexts : BatchAsked → List ℕ → List ℕ → List ℕ
+    → Option (List ℕ) → Option (List ℕ) → Log → Log → Type 0
 TellsTexts asked told json junit out out' written written' =
     Appends out out' told × WritesBoth asked json junit written written'
 
 -- The batch was done, and the status is that of all of its traces.
-pub record IsDone (holds knows : List ℕ → Held) (asked : BatchAsked) (input out out' : Option (List ℕ))
+pub record IsDone (holds knows : List ℕ → Held) (asked : BatchAsked)
+    (input out out' : Option (List ℕ))
     (written written' : Log) (status : ℕ) : Type 0 where
   pub entries : List Entry
   pub results : AreResults asked holds knows input entries
-  pub told : TellsTexts asked (told_text asked.extras.failed entries) (results_json asked.extras.part asked.extras.parts entries) (junit_text entries) out out' written
+  pub told : TellsTexts asked (told_text asked.extras.failed entries)
+      (results_json asked.extras.part asked.extras.parts entries)
+      (junit_text entries) out out' written
       written'
   pub total : status ≡ status_of_all entries
 
--- Where no output failed: it was done, and nothing was noted; or the list of traces could not be had, or there was no memory, and that was
--- noted.
-abbrev pub DoesBatch : (List ℕ → Held) → (List ℕ → Held) → BatchAsked → Option (List ℕ) → Option (List ℕ) → Option (List ℕ)
+-- Where no output failed: it was done, and nothing was noted; or the list of traces could not be
+-- had, or there was no memory, and that was noted.
+abbrev pub DoesBatch : (List ℕ → Held) → (List ℕ → Held) → BatchAsked
+    → Option (List ℕ) → Option (List ℕ) → Option (List ℕ)
     → Option (List ℕ) → Option (List ℕ) → Log → Log → ℕ → Type 0
 DoesBatch holds knows asked input out out' notes notes' written written' status =
     (IsDone holds knows asked input out out' written written' status × Appends notes notes' [])
@@ -62,9 +69,10 @@ DoesBatch holds knows asked input out out' notes notes' written written' status 
 abbrev pub AsksNoBatch : List (List ℕ) → Type 0
 AsksNoBatch words = (words ≢ codes "--help" ∷ []) × ((batch : BatchAsked) → ¬ AsksBatch words batch)
 
--- Where no output failed: what the words behind `batch` ask was done; or help was asked for and told; or they ask nothing, and the usage was
--- noted; or there was no memory for them.
-abbrev pub Batches : (List ℕ → Held) → (List ℕ → Held) → List (List ℕ) → Option (List ℕ) → Option (List ℕ) → Option (List ℕ)
+-- Where no output failed: what the words behind `batch` ask was done; or help was asked for and
+-- told; or they ask nothing, and the usage was noted; or there was no memory for them.
+abbrev pub Batches : (List ℕ → Held) → (List ℕ → Held) → List (List ℕ)
+    → Option (List ℕ) → Option (List ℕ) → Option (List ℕ)
     → Option (List ℕ) → Option (List ℕ) → Log → Log → ℕ → Type 0
 Batches holds knows words input out out' notes notes' written written' status =
     ((asked : BatchAsked) × AsksBatch words asked

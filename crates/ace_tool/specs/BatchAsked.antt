@@ -8,7 +8,8 @@ use Rattle.ace_tool.specs.Options.{has_equals}
 use Rattle.ace_tool.specs.declared.batch_options.BatchFlag.{BatchFlag}
 use Rattle.ace_tool.specs.declared.batch_options.BatchValued.{BatchValued}
 
--- What the words so far ask: what they ask `check`, and the options that it doesn't have. One of them may wait for its value.
+-- What the words so far ask: what they ask `check`, and the options that it doesn't have. One of
+-- them may wait for its value.
 pub record BatchSoFar : Type 0 where
   pub check : Asked
   pub waiting : Option BatchValued
@@ -47,7 +48,8 @@ abbrev pub with_flag_by : Option BatchFlag → List ℕ → BatchSoFar → Optio
 with_flag_by None word a = with_valued_word word a
 with_flag_by (Some flag) word a = Some (record a { extras = with_batch_flag flag a.extras })
 
--- A word. Behind `--`, and where an option of `check` waits for its value, it is as `check` takes it.
+-- A word. Behind `--`, and where an option of `check` waits for its value, it is as `check` takes
+-- it.
 abbrev pub with_any_word : List ℕ → BatchSoFar → Option BatchSoFar
 with_any_word word a =
     if a.check.names_only || is_some a.check.waiting then with_check_word word a
@@ -66,7 +68,8 @@ abbrev pub with_batch_all : Option BatchSoFar → List (List ℕ) → Option Bat
 with_batch_all a [] = a
 with_batch_all a (word ∷ rest) = with_batch_all (option_and_then (with_batch word) a) rest
 
--- What `batch` is asked to do: the names of the traces and how to check them, as `check` is; and what the other options say.
+-- What `batch` is asked to do: the names of the traces and how to check them, as `check` is; and
+-- what the other options say.
 pub record BatchAsked : Type 0 where
   pub traces : List (List ℕ)
   pub options : Options
@@ -77,8 +80,8 @@ abbrev pub has_some : List (List ℕ) → Option (List ℕ) → Bool
 has_some [] list = is_some list
 has_some (name ∷ names) list = true
 
--- The words of `check` are right by themselves, and ask these options for files: standard input is none of the traces, and no side file is
--- named.
+-- The words of `check` are right by themselves, and ask these options for files: standard input is
+-- none of the traces, and no side file is named.
 pub record AreOfFiles (asked : Asked) (chosen : Options) : Type 0 where
   pub whole : asked.waiting ≡ None
   pub files : asked.has_input ≡ false

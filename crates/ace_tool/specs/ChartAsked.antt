@@ -2,15 +2,17 @@
 use Rattle.std.specs.Prelude.{◌≡◌, ◌&&◌, ◌==◌, ℕ, Bool, true, false, if◌then◌else◌, not, List, [], ◌∷◌, Option, None, Some, is_some, codes, bytes_eq, option_and_then, option_map}
 use Rattle.std.specs.List.{after_first, before_first}
 use Rattle.std.specs.Map.{lookup}
+use Rattle.ace_chart_rows.specs.declared.selection.Selection.{Selection}
 use Rattle.ace_drawing.specs.declared.line_choice.LineChoice.{LineChoice}
 use Rattle.ace_tool.specs.Asked.{has_hyphen, is_input}
 use Rattle.ace_tool.specs.ChartOptions.{AreRows, ChartGiven, chart_valued, line_said, no_chart_options, with_chart_value}
+use Rattle.ace_tool.specs.ChartSelected.{Selects}
 use Rattle.ace_tool.specs.ExplainAsked.{some_trace}
 use Rattle.ace_tool.specs.Options.{has_equals}
 use Rattle.ace_tool.specs.declared.chart_options.ChartValued.{ChartValued}
 
--- What the words so far ask: the name of a trace, if it came, and options. `--` may have come, behind which a word is a name; and an option
--- may wait for its value, which is the next word.
+-- What the words so far ask: the name of a trace, if it came, and options. `--` may have come,
+-- behind which a word is a name; and an option may wait for its value, which is the next word.
 pub record ChartSoFar : Type 0 where
   pub trace : Option (List ℕ)
   pub names_only : Bool
@@ -18,7 +20,8 @@ pub record ChartSoFar : Type 0 where
   pub given : ChartGiven
 
 abbrev pub nothing_to_draw : ChartSoFar
-nothing_to_draw = record { trace = None; names_only = false; waiting = None; given = no_chart_options }
+nothing_to_draw =
+    record { trace = None; names_only = false; waiting = None; given = no_chart_options }
 
 -- the name of the trace, of which there may be one
 abbrev pub with_drawn_name : List ℕ → ChartSoFar → Option ChartSoFar
@@ -27,7 +30,8 @@ with_drawn_name word a = if is_some a.trace then None else Some (record a { trac
 -- the value of an option
 abbrev pub with_drawn_value : Option ChartValued → List ℕ → ChartSoFar → Option ChartSoFar
 with_drawn_value None value a = None
-with_drawn_value (Some option) value a = option_map (λ g. record a { given = g }) (with_chart_value option value a.given)
+with_drawn_value (Some option) value a =
+    option_map (λ g. record a { given = g }) (with_chart_value option value a.given)
 
 -- the name of an option, whose value is the next word
 abbrev pub with_drawn_option : Option ChartValued → ChartSoFar → Option ChartSoFar
@@ -38,7 +42,8 @@ with_drawn_option (Some option) a = Some (record a { waiting = Some option })
 abbrev pub with_drawn_valued : List ℕ → ChartSoFar → Option ChartSoFar
 with_drawn_valued word a =
     if has_equals word
-    then with_drawn_value (lookup (bytes_eq (before_first (λ b. b == 61) word)) chart_valued) (after_first (λ b. b == 61) word) a
+    then with_drawn_value (lookup (bytes_eq (before_first (λ b. b == 61) word)) chart_valued)
+    (after_first (λ b. b == 61) word) a
     else with_drawn_option (lookup (bytes_eq word) chart_valued) a
 
 -- A word that is no value. Before `--` those that begin with `-` are options, but `-` is a name.
@@ -46,11 +51,13 @@ abbrev pub with_drawn_word : List ℕ → ChartSoFar → Option ChartSoFar
 with_drawn_word word a =
     if a.names_only then with_drawn_name word a
     else if bytes_eq word (codes "--") then Some (record a { names_only = true })
-    else if has_hyphen word && not (is_input word) then with_drawn_valued word a else with_drawn_name word a
+    else if has_hyphen word && not (is_input word) then with_drawn_valued word a
+    else with_drawn_name word a
 
 -- What is asked with one more word, by the option that waits; none where it is wrong there.
 abbrev pub with_drawn_by : Option ChartValued → List ℕ → ChartSoFar → Option ChartSoFar
-with_drawn_by (Some option) word a = with_drawn_value (Some option) word (record a { waiting = None })
+with_drawn_by (Some option) word a =
+    with_drawn_value (Some option) word (record a { waiting = None })
 with_drawn_by None word a = with_drawn_word word a
 
 abbrev pub with_drawn : List ℕ → ChartSoFar → Option ChartSoFar
@@ -61,12 +68,15 @@ abbrev pub with_drawn_all : Option ChartSoFar → List (List ℕ) → Option Cha
 with_drawn_all a [] = a
 with_drawn_all a (word ∷ rest) = with_drawn_all (option_and_then (with_drawn word) a) rest
 
--- What `chart` is asked: of which trace and which line of it, in how many rows, and into which file; without one it is told.
+-- What `chart` is asked: of which trace, of which line and which events of it, in how many rows,
+-- under which title, and into which file; without one it is told.
 pub record ChartAsked : Type 0 where
   pub trace : List ℕ
   pub out : Option (List ℕ)
   pub line : LineChoice
   pub rows : ℕ
+  pub selection : Selection
+  pub title : Option (List ℕ)
 
 -- It is asked to do this, where its words are right.
 pub record IsChartAsked (asked : ChartSoFar) (chart : ChartAsked) : Type 0 where
@@ -75,8 +85,11 @@ pub record IsChartAsked (asked : ChartSoFar) (chart : ChartAsked) : Type 0 where
   pub out : chart.out ≡ asked.given.out
   pub line : line_said asked.given.line ≡ Some chart.line
   pub rows : AreRows asked.given.rows chart.rows
+  pub selection : Selects asked.given chart.selection
+  pub title : chart.title ≡ asked.given.title
 
 -- The words behind `chart` ask it to do this.
 abbrev pub AsksChart : List (List ℕ) → ChartAsked → Type 0
 AsksChart words chart =
-    (asked : ChartSoFar) × (with_drawn_all (Some nothing_to_draw) words ≡ Some asked) × IsChartAsked asked chart
+    (asked : ChartSoFar) × (with_drawn_all (Some nothing_to_draw) words ≡ Some asked)
+    × IsChartAsked asked chart

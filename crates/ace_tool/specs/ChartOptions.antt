@@ -9,16 +9,31 @@ use Rattle.ace_tool.specs.declared.chart_options.ChartValued.TheVariants as opti
 
 -- each has a value, which is the next word or stands behind `=`
 abbrev pub chart_valued : List (List ℕ × ChartValued)
-chart_valued = (codes "-o", option.Out) ∷ (codes "--line", option.Line) ∷ (codes "--rows", option.Rows) ∷ []
+chart_valued =
+    (codes "-o", option.Out) ∷ (codes "--line", option.Line) ∷ (codes "--rows", option.Rows)
+    ∷ (codes "--events", option.Events) ∷ (codes "--around", option.Around)
+    ∷ (codes "--port", option.Port) ∷ (codes "--title", option.Title) ∷ []
 
 -- the options that were given, with their values as they stand
 pub record ChartGiven : Type 0 where
   pub out : Option (List ℕ)
   pub line : Option (List ℕ)
   pub rows : Option (List ℕ)
+  pub events : Option (List ℕ)
+  pub around : Option (List ℕ)
+  pub port : Option (List ℕ)
+  pub title : Option (List ℕ)
 
 abbrev pub no_chart_options : ChartGiven
-no_chart_options = record { out = None; line = None; rows = None }
+no_chart_options = record {
+  out = None;
+  line = None;
+  rows = None;
+  events = None;
+  around = None;
+  port = None;
+  title = None;
+}
 
 -- one more, which can be given once
 abbrev pub with_chart_value : ChartValued → List ℕ → ChartGiven → Option ChartGiven
@@ -28,6 +43,14 @@ with_chart_value option.Line value given =
     if is_some given.line then None else Some (record given { line = Some value })
 with_chart_value option.Rows value given =
     if is_some given.rows then None else Some (record given { rows = Some value })
+with_chart_value option.Events value given =
+    if is_some given.events then None else Some (record given { events = Some value })
+with_chart_value option.Around value given =
+    if is_some given.around then None else Some (record given { around = Some value })
+with_chart_value option.Port value given =
+    if is_some given.port then None else Some (record given { port = Some value })
+with_chart_value option.Title value given =
+    if is_some given.title then None else Some (record given { title = Some value })
 
 -- the line that holds an address
 abbrev pub line_at : ℕ → Option LineChoice

@@ -9,4 +9,6 @@ chart_of call = record {
   out = option_map (λ name. name.now) call.out;
   line = call.line;
   rows = call.rows;
+  selection = call.selection;
+  title = option_map (λ title. title.now) call.title;
 }

@@ -18,39 +18,49 @@ use Rattle.ace_tool.specs.declared.picture.Picture.TheVariants.{Drawn, Undrawn}
 -- The text was written into the file that is asked for, or else told.
 abbrev pub Puts : Option (List ℕ) → List ℕ → Option (List ℕ) → Option (List ℕ) → Log → Log → Type 0
 Puts None text out out' written written' = Appends out out' text × WritesNone written written'
-Puts (Some name) text out out' written written' = Appends out out' [] × Writes written written' name text
+Puts (Some name) text out out' written written' =
+    Appends out out' [] × Writes written written' name text
 
 -- It was noted why there is no picture, with this status.
 abbrev pub Notes : ChartAsked → NoPicture → Option (List ℕ) → Option (List ℕ) → ℕ → Type 0
-Notes asked (Explained x) notes notes' status = TellsFinding asked.trace true (finding.Explained x) notes notes' status
-Notes asked TooManyRows notes notes' status = Appends notes notes' (rows_line asked.trace asked.rows) × (status ≡ 6)
-Notes asked (Shut error) notes notes' status = Appends notes notes' (shut_line asked.trace error) × (status ≡ 4)
+Notes asked (Explained x) notes notes' status =
+    TellsFinding asked.trace true (finding.Explained x) notes notes' status
+Notes asked TooManyRows notes notes' status =
+    Appends notes notes' (rows_line asked.trace asked.rows) × (status ≡ 6)
+Notes asked (Shut error) notes notes' status =
+    Appends notes notes' (shut_line asked.trace error) × (status ≡ 4)
 Notes asked (Compressed packing) notes notes' status =
     Appends notes notes' (packed_to_draw asked.trace packing) × (status ≡ 4)
 
--- The picture was told or written, and nothing noted; or it was noted why there is none, and nothing told or written.
-abbrev pub Shows : ChartAsked → Picture → Option (List ℕ) → Option (List ℕ) → Option (List ℕ) → Option (List ℕ) → Log → Log → ℕ → Type 0
+-- The picture was told or written, and nothing noted; or it was noted why there is none, and
+-- nothing told or written.
+abbrev pub Shows : ChartAsked → Picture → Option (List ℕ) → Option (List ℕ)
+    → Option (List ℕ) → Option (List ℕ) → Log → Log → ℕ → Type 0
 Shows asked (Drawn text) out out' notes notes' written written' status =
     (status ≡ 0) × Puts asked.out text.items out out' written written' × Appends notes notes' []
 Shows asked (Undrawn reason) out out' notes notes' written written' status =
     Notes asked reason notes notes' status × Appends out out' [] × WritesNone written written'
 
 -- The picture that is asked for was made, and shown.
-abbrev pub Draws : (List ℕ → Held) → ChartAsked → Option (List ℕ) → Option (List ℕ) → Option (List ℕ) → Option (List ℕ) → Option (List ℕ)
+abbrev pub Draws : (List ℕ → Held) → ChartAsked → Option (List ℕ)
+    → Option (List ℕ) → Option (List ℕ) → Option (List ℕ) → Option (List ℕ)
     → Log → Log → ℕ → Type 0
 Draws holds asked input out out' notes notes' written written' status =
-    (picture : Picture) × IsPicture asked (is_input asked.trace) (told_of (holds asked.trace)) input picture
+    (picture : Picture) × IsPicture asked (is_input asked.trace)
+    (told_of (holds asked.trace)) input picture
     × Shows asked picture out out' notes notes' written written' status
 
 -- The words behind `chart` ask nothing.
 abbrev pub AsksNoChart : List (List ℕ) → Type 0
 AsksNoChart words = (words ≢ codes "--help" ∷ []) × ((chart : ChartAsked) → ¬ AsksChart words chart)
 
--- Where no output failed: what the words behind `chart` ask was done; or help was asked for and told; or they ask nothing, and the usage was
--- noted.
-abbrev pub Charts : (List ℕ → Held) → List (List ℕ) → Option (List ℕ) → Option (List ℕ) → Option (List ℕ) → Option (List ℕ) → Option (List ℕ)
+-- Where no output failed: what the words behind `chart` ask was done; or help was asked for and
+-- told; or they ask nothing, and the usage was noted.
+abbrev pub Charts : (List ℕ → Held) → List (List ℕ) → Option (List ℕ)
+    → Option (List ℕ) → Option (List ℕ) → Option (List ℕ) → Option (List ℕ)
     → Log → Log → ℕ → Type 0
 Charts holds words input out out' notes notes' written written' status =
-    ((asked : ChartAsked) × AsksChart words asked × Draws holds asked input out out' notes notes' written written' status)
+    ((asked : ChartAsked) × AsksChart words asked
+    × Draws holds asked input out out' notes notes' written written' status)
     ⊎ ((words ≡ codes "--help" ∷ []) × (status ≡ 0) × Appends out out' chart_help)
     ⊎ (AsksNoChart words × (status ≡ 2) × Appends notes notes' chart_help)

@@ -24,7 +24,8 @@ pub record Checked : Type 0 where
   pub report : Report
 
 -- This is to be told of these bytes alone, within the limits: how they are compressed, or else the
--- verdict on them, and how many transactions are outstanding at the end of an accepted trace. A fault of the input and want of memory may take the place of both.
+-- verdict on them, and how many transactions are outstanding at the end of an accepted trace. A
+-- fault of the input and want of memory may take the place of both.
 abbrev pub IsRead : Limits → List ℕ → Report → Type 0
 IsRead limits bytes (Told v outstanding) = IsVerdictWithin limits bytes v
     × IsOutstanding bytes v outstanding × (IsDueVerdict v → packing_of bytes ≡ None)

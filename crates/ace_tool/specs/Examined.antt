@@ -18,8 +18,9 @@ report_of (finding.Explained x) = Told (verdict_of x) (outstanding_in x)
 report_of (finding.Shut error) = Shut error
 report_of (finding.Compressed packing) = Compressed packing
 
--- This was found in these bytes, within the limits, as `explain` finds it: how they are compressed, or else an explanation of them. A fault
--- of the input and want of memory may take the place of both.
+-- This was found in these bytes, within the limits, as `explain` finds it: how they are compressed,
+-- or else an explanation of them. A fault of the input and want of memory may take the place of
+-- both.
 abbrev pub IsFoundWithin : Limits → List ℕ → Finding → Type 0
 IsFoundWithin limits bytes (finding.Explained x) = IsExplanationWithin limits bytes x
     × (IsDueVerdict (verdict_of x) → packing_of bytes ≡ None)
@@ -31,7 +32,8 @@ abbrev pub IsFoundFile : Limits → Option (List ℕ) → Finding → Type 0
 IsFoundFile limits told (finding.Shut error) = ⊤
 IsFoundFile limits told found = IfSome told (λ bytes. IsFoundWithin limits bytes found)
 
--- This was found in the file of this name, and this is to be told of it, by its side file too, as `check` does.
+-- This was found in the file of this name, and this is to be told of it, by its side file too, as
+-- `check` does.
 pub record IsExamined (options : Options) (holds : List ℕ → Held) (name : List ℕ) (found : Finding)
     (report : Report) : Type 0 where
   pub explained : IsFoundFile options.limits (told_of (holds name)) found

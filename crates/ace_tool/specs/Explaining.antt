@@ -1,7 +1,9 @@
 -- What `explain` tells of a trace, and whether it is right.
-use Rattle.std.specs.Prelude.{◌≡◌, ◌++◌, ◌-◌, ◌^◌, ⊤, ℕ, Bool, true, false, if◌then◌else◌, List, Option, None, Some, IfSome, codes}
+use Rattle.std.specs.Prelude.{◌≡◌, ◌⊎◌, ◌++◌, ◌-◌, ◌^◌, ⊤, ℕ, Bool, true, false, if◌then◌else◌, List, Option, None, Some, IfSome, codes}
 use Rattle.std.specs.Io.KnownBytes.{Appends}
+use Rattle.ace_batch.specs.declared.outcome.Outcome.TheVariants.{Unreadable}
 use Rattle.ace_convert.specs.Output.{AppendsPart}
+use Rattle.ace_explain_json.specs.Objects.{explanation_json, no_memory_json, plain_json}
 use Rattle.ace_explanation.specs.Explanations.{HasAnyLine, IsExplanationWithin, verdict_of}
 use Rattle.ace_explanation.specs.Told.{HasTold, HasToldPart}
 use Rattle.ace_grammar.specs.Reading.{most_counted}
@@ -14,6 +16,8 @@ use Rattle.ace_tool.specs.ExplainAsked.{ExplainAsked}
 use Rattle.ace_tool.specs.Held.{Held, told_of}
 use Rattle.ace_tool.specs.Packing.{advice_of, packing_of}
 use Rattle.ace_tool.specs.Reports.{open_text, shown_name, status_of_verdict}
+use Rattle.ace_tool.specs.declared.explain_words.Form.{Form}
+use Rattle.ace_tool.specs.declared.explain_words.Form.TheVariants.{Whole, Short, Json}
 use Rattle.ace_tool.specs.declared.finding.Finding.{Finding}
 use Rattle.ace_tool.specs.declared.finding.Finding.TheVariants.{Explained, Shut, Compressed}
 use Rattle.ace_tool.specs.declared.folder.OpenErr.{OpenErr}
@@ -81,16 +85,54 @@ TellsPart name short (Explained x) out out' = HasToldPart (told_name name) short
 TellsPart name short (Shut error) out out' = AppendsPart out out' (shut_line name error)
 TellsPart name short (Compressed packing) out out' = AppendsPart out out' (packed_line name packing)
 
+-- All that was found, as a JSON object: that of its explanation, or that it can't be read, and why.
+abbrev pub packed_words : List ℕ → Packing → List ℕ
+packed_words name packing =
+    advice_of packing ++ (shown_name name ++ codes " | acetool explain -")
+
+abbrev pub finding_json : List ℕ → Finding → List ℕ
+finding_json name (Explained x) = explanation_json (told_name name) x
+finding_json name (Shut error) =
+    plain_json (told_name name) Unreadable (Some (open_text error)) None None
+finding_json name (Compressed packing) =
+    plain_json (told_name name) Unreadable (Some (packed_words name packing)) None None
+
+abbrev pub status_of_finding : Finding → ℕ
+status_of_finding (Explained x) = status_of_verdict (verdict_of x)
+status_of_finding finding = 4
+
+-- The object was told, or that there was no memory for it.
+abbrev pub TellsJson : List ℕ → Finding → Option (List ℕ) → Option (List ℕ) → ℕ → Type 0
+TellsJson name finding out out' status =
+    (Appends out out' (finding_json name finding) × (status ≡ status_of_finding finding))
+    ⊎ (Appends out out' no_memory_json × (status ≡ 7))
+
+-- The output failed while it was told.
+abbrev pub TellsJsonPart : List ℕ → Finding → Option (List ℕ) → Option (List ℕ) → Type 0
+TellsJsonPart name finding out out' =
+    AppendsPart out out' (finding_json name finding) ⊎ AppendsPart out out' no_memory_json
+
+-- The same in each form.
+abbrev pub TellsAs : Form → List ℕ → Finding → Option (List ℕ) → Option (List ℕ) → ℕ → Type 0
+TellsAs Whole name finding out out' status = TellsFinding name false finding out out' status
+TellsAs Short name finding out out' status = TellsFinding name true finding out out' status
+TellsAs Json name finding out out' status = TellsJson name finding out out' status
+
+abbrev pub TellsPartAs : Form → List ℕ → Finding → Option (List ℕ) → Option (List ℕ) → Type 0
+TellsPartAs Whole name finding out out' = TellsPart name false finding out out'
+TellsPartAs Short name finding out out' = TellsPart name true finding out out'
+TellsPartAs Json name finding out out' = TellsJsonPart name finding out out'
+
 -- The trace that was asked for was explained.
 pub record Explains (holds : List ℕ → Held) (asked : ExplainAsked)
     (input left out out' : Option (List ℕ)) (status : ℕ) : Type 0 where
   pub finding : Finding
   pub right : IsFound (is_input asked.trace) (told_of (holds asked.trace)) input finding left
-  pub told : TellsFinding asked.trace asked.short finding out out' status
+  pub told : TellsAs asked.form asked.trace finding out out' status
 
 -- The output failed while it was.
 pub record ExplainsPart (holds : List ℕ → Held) (asked : ExplainAsked)
     (input left out out' : Option (List ℕ)) : Type 0 where
   pub finding : Finding
   pub right : IsFound (is_input asked.trace) (told_of (holds asked.trace)) input finding left
-  pub told : TellsPart asked.trace asked.short finding out out'
+  pub told : TellsPartAs asked.form asked.trace finding out out'

@@ -7,6 +7,7 @@ pub mod BatchTexts
 pub mod BatchTold
 pub mod ChartAsked
 pub mod ChartOptions
+pub mod ChartSelected
 pub mod ChartTexts
 pub mod ChartTold
 pub mod Charting

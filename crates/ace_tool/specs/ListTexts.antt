@@ -9,7 +9,8 @@ abbrev pub IsWhole : Option (List ℕ) → List ℕ → Type 0
 IsWhole left bytes = IfSome left (λ told. told ≡ bytes)
 
 -- Some more bytes were taken, or there were no more.
-pub record TakesSome (left left' : Option (List ℕ)) (before after : List ℕ) (some : Bool) : Type 0 where
+pub record TakesSome (left left' : Option (List ℕ)) (before after : List ℕ)
+    (some : Bool) : Type 0 where
   pub more : List ℕ
   pub grown : after ≡ before ++ more
   pub taken : Consumes left left' more
@@ -23,4 +24,5 @@ IsListText false told input text = IsWhole told text
 -- the text of the list that is asked for, or no text
 abbrev pub IsTextOfList : (List ℕ → Held) → Option (List ℕ) → Option (List ℕ) → List ℕ → Type 0
 IsTextOfList holds None input text = text ≡ []
-IsTextOfList holds (Some name) input text = IsListText (is_input name) (told_of (holds name)) input text
+IsTextOfList holds (Some name) input text =
+    IsListText (is_input name) (told_of (holds name)) input text

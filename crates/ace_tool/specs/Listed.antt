@@ -10,16 +10,19 @@ use Rattle.ace_tool.specs.Held.{Held, told_of}
 abbrev pub Lists : Option (List ℕ) → List (List ℕ) → Type 0
 Lists told listed = IfSome told (λ bytes. listed ≡ paths_of bytes)
 
--- The list of this name, which may be that of standard input, lists these traces; without one there are none.
+-- The list of this name, which may be that of standard input, lists these traces; without one there
+-- are none.
 abbrev pub IsListedBy : Bool → Option (List ℕ) → Option (List ℕ) → List (List ℕ) → Type 0
 IsListedBy true told input listed = Lists input listed
 IsListedBy false told input listed = Lists told listed
 
 abbrev pub IsListed : (List ℕ → Held) → Option (List ℕ) → Option (List ℕ) → List (List ℕ) → Type 0
 IsListed holds None input listed = listed ≡ []
-IsListed holds (Some name) input listed = IsListedBy (is_input name) (told_of (holds name)) input listed
+IsListed holds (Some name) input listed =
+    IsListedBy (is_input name) (told_of (holds name)) input listed
 
--- These are the traces that are to be checked: of those that are named, and then of those that are listed, the part that is asked for.
+-- These are the traces that are to be checked: of those that are named, and then of those that are
+-- listed, the part that is asked for.
 pub record AreAsked (asked : BatchAsked) (holds : List ℕ → Held) (input : Option (List ℕ))
     (paths : List (List ℕ)) : Type 0 where
   pub listed : List (List ℕ)

@@ -20,9 +20,10 @@ are_names (word ∷ words) = not (list_any has_hyphen (word ∷ words))
 abbrev pub AreTexts : (List ℕ → Held) → List (List ℕ) → List (List ℕ) → Type 0
 AreTexts holds names texts = AllZip (λ name text. IsWhole (told_of (holds name)) text) names texts
 
--- The texts of the files are the results of the parts of one list of traces, each once; the summary of that list was told, and the
--- status is that of all of its traces.
-pub record IsMerged (holds : List ℕ → Held) (names : List (List ℕ)) (out out' : Option (List ℕ)) (status : ℕ) : Type 0 where
+-- The texts of the files are the results of the parts of one list of traces, each once; the summary
+-- of that list was told, and the status is that of all of its traces.
+pub record IsMerged (holds : List ℕ → Held) (names : List (List ℕ))
+    (out out' : Option (List ℕ)) (status : ℕ) : Type 0 where
   pub texts : List (List ℕ)
   pub entries : List Entry
   pub held : AreTexts holds names texts
@@ -30,20 +31,26 @@ pub record IsMerged (holds : List ℕ → Held) (names : List (List ℕ)) (out o
   pub told : Appends out out' (summary_text entries)
   pub total : status ≡ status_of_all entries
 
--- the status where they aren't: a text is malformed, or a file could not be had, or there was no memory
+-- the status where they aren't: a text is malformed, or a file could not be had, or there was no
+-- memory
 abbrev pub IsFault : ℕ → Type 0
 IsFault status = (status ≡ 3) ⊎ (status ≡ 4) ⊎ (status ≡ 7)
 
--- The summary of these results was told, and the status is that of all of their traces; or there was no memory for it.
-abbrev pub TellsSummary : List Entry → Option (List ℕ) → Option (List ℕ) → Option (List ℕ) → Option (List ℕ) → ℕ → Type 0
+-- The summary of these results was told, and the status is that of all of their traces; or there
+-- was no memory for it.
+abbrev pub TellsSummary : List Entry → Option (List ℕ) → Option (List ℕ)
+    → Option (List ℕ) → Option (List ℕ) → ℕ → Type 0
 TellsSummary entries out out' notes notes' status =
-    (Appends out out' (summary_text entries) × (status ≡ status_of_all entries) × Appends notes notes' [])
+    (Appends out out' (summary_text entries) × (status ≡ status_of_all entries)
+    × Appends notes notes' [])
     ⊎ (IsFault status × Appends out out' [] × ((told : List ℕ) × Appends notes notes' told))
 
--- Where no output failed: the results were put together; or the words are wrong, and the usage was noted; or they could not be, and
--- that was noted, and nothing told.
-abbrev pub Merges : (List ℕ → Held) → List (List ℕ) → Option (List ℕ) → Option (List ℕ) → Option (List ℕ) → Option (List ℕ) → ℕ → Type 0
+-- Where no output failed: the results were put together; or the words are wrong, and the usage was
+-- noted; or they could not be, and that was noted, and nothing told.
+abbrev pub Merges : (List ℕ → Held) → List (List ℕ) → Option (List ℕ)
+    → Option (List ℕ) → Option (List ℕ) → Option (List ℕ) → ℕ → Type 0
 Merges holds words out out' notes notes' status =
     (IsMerged holds words out out' status × Appends notes notes' [])
-    ⊎ ((are_names words ≡ false) × (status ≡ 2) × Appends out out' [] × Appends notes notes' batch_help)
+    ⊎ ((are_names words ≡ false) × (status ≡ 2) × Appends out out' []
+    × Appends notes notes' batch_help)
     ⊎ (IsFault status × Appends out out' [] × ((told : List ℕ) × Appends notes notes' told))

@@ -13,17 +13,20 @@ use Rattle.ace_tool.specs.declared.picture.Picture.TheVariants.{Drawn, Undrawn}
 use Rattle.ace_tool.specs.declared.picture.NoPicture.{NoPicture}
 use Rattle.ace_tool.specs.declared.picture.NoPicture.TheVariants.{Explained, TooManyRows, Shut, Compressed}
 
--- There is no picture of the trace in these bytes for this reason: it is neither accepted nor refused, or they are compressed.
+-- There is no picture of the trace in these bytes for this reason: it is neither accepted nor
+-- refused, or they are compressed.
 abbrev pub IsUndrawn : List ℕ → NoPicture → Type 0
-IsUndrawn bytes (Explained x) = IsExplanationWithin no_limits bytes x × (drawn_events (verdict_of x) ≡ None)
+IsUndrawn bytes (Explained x) =
+    IsExplanationWithin no_limits bytes x × (drawn_events (verdict_of x) ≡ None)
 IsUndrawn bytes TooManyRows = ⊤
 IsUndrawn bytes (Compressed packing) = packing_of bytes ≡ Some packing
 IsUndrawn bytes (Shut error) = ⊥
 
 -- This is the picture of the trace in these bytes that is asked for, or there is none for a reason.
 abbrev pub IsPictureIn : ChartAsked → List ℕ → Picture → Type 0
-IsPictureIn asked bytes (Drawn text) = (c : Chart) × (x : Explanation) × IsDrawn no_limits bytes asked.line c x
-    × (text.items ≡ picture_text asked.trace c x)
+IsPictureIn asked bytes (Drawn text) =
+    (c : Chart) × (x : Explanation) × IsDrawn no_limits bytes asked.line asked.selection c x
+    × (text.items ≡ picture_text asked.trace asked.title c x)
 IsPictureIn asked bytes (Undrawn reason) = IsUndrawn bytes reason
 
 -- The same of a file, which can perhaps not be opened.

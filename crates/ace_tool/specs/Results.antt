@@ -3,6 +3,7 @@ use Rattle.std.specs.Prelude.{◌≡◌, ◌+◌, ◌++◌, ℕ, false, List, []
 use Rattle.ace_batch.specs.declared.entry.Entry.{Entry}
 use Rattle.ace_batch.specs.declared.outcome.Outcome.{Outcome}
 use Rattle.ace_batch.specs.declared.outcome.Outcome.TheVariants as outcome
+use Rattle.ace_explain_json.specs.Outcomes.{outcome_of_verdict}
 use Rattle.ace_explanation.specs.Refusals.{wrong_sentence}
 use Rattle.ace_explanation.specs.Texts.{explanation_text}
 use Rattle.ace_explanation.specs.declared.explanation.Explanation.TheVariants.{Refused, Malformed}
@@ -20,19 +21,9 @@ use Rattle.ace_tool.specs.declared.report.Report.{Report}
 use Rattle.ace_tool.specs.declared.report.Report.TheVariants.{Told, Shut, Compressed, Unfinished, BadSide}
 use Rattle.ace_tool.specs.declared.side.SideFault.{SideFault}
 use Rattle.ace_tool.specs.declared.side.SideFault.TheVariants as fault
-use Rattle.ace_verdict.specs.declared.verdict.Verdict.{Verdict}
 use Rattle.ace_verdict.specs.declared.verdict.Verdict.TheVariants as verdict
 
 -- how a check came out
-abbrev pub outcome_of_verdict : Verdict → Outcome
-outcome_of_verdict (verdict.Accepted events) = outcome.Accepted
-outcome_of_verdict (verdict.Refused index rule) = outcome.Refused
-outcome_of_verdict (verdict.Malformed line reason) = outcome.Malformed
-outcome_of_verdict verdict.ReadFault = outcome.Unreadable
-outcome_of_verdict verdict.LimitEvents = outcome.Limited
-outcome_of_verdict verdict.LimitLines = outcome.Limited
-outcome_of_verdict verdict.NoMemory = outcome.NoMemory
-
 abbrev pub outcome_of_fault : SideFault → Outcome
 outcome_of_fault (fault.Malformed line reason) = outcome.Malformed
 outcome_of_fault fault.ReadFault = outcome.Unreadable
@@ -102,7 +93,8 @@ message_of name (finding.Explained (Refused r)) report = wrong_sentence r.rule r
 message_of name (finding.Explained (Malformed bad)) report = malformed_sentence bad
 message_of name found report = message_of_report name report
 
--- All that is told of it: of a trace that is refused or malformed what `explain` tells, if there is memory, and of another its message.
+-- All that is told of it: of a trace that is refused or malformed what `explain` tells, if there is
+-- memory, and of another its message.
 abbrev pub IsText : List ℕ → Finding → Report → List ℕ → Type 0
 IsText name (finding.Explained (Refused r)) report text =
     text ≡ explanation_text name false (Refused r)
@@ -122,7 +114,8 @@ pub record IsEntryOf (name : List ℕ) (found : Finding) (report : Report) (e : 
   pub text : IsText name found report e.text.items
 
 -- The entry is that of the trace of this name.
-pub record IsResult (options : Options) (holds : List ℕ → Held) (name : List ℕ) (e : Entry) : Type 0 where
+pub record IsResult (options : Options) (holds : List ℕ → Held)
+    (name : List ℕ) (e : Entry) : Type 0 where
   pub found : Finding
   pub report : Report
   pub right : IsExamined options holds name found report

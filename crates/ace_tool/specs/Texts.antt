@@ -3,7 +3,7 @@ use Rattle.std.specs.Prelude.{ℕ, List, codes}
 
 abbrev pub help : List ℕ
 help =
-    codes "usage: acetool COMMAND [OPTION].. [FILE]..\n\nChecks traces of AMBA ACE. The verdict is always that of `ace check`.\n\n  check [FILE]..   the verdict on each trace\n  batch FILE..     the same of many traces, in threads, with a summary and files for a CI\n  cover FILE..     what accepted traces exercised, and what none of them did\n  explain [FILE]   why a trace is refused: the event, the rule, and the clause of it that is broken\n  chart [FILE]     a sequence chart of one line of a trace, as SVG\n  rule [NAME]..    what a rule asks: K12 with its clauses, or K12d; without a name the rules\n\nFILE is a trace; `-`, or no file, is standard input. `acetool COMMAND --help` tells more, and\n`acetool --version` the version.\n"
+    codes "usage: acetool COMMAND [OPTION].. [FILE]..\n\nChecks traces of AMBA ACE. The verdict is always that of `ace check`.\n\n  check [FILE]..   the verdict on each trace\n  batch FILE..     the same of many traces, in threads, with a summary and files for a CI\n  cover FILE..     what accepted traces exercised, and what none of them did\n  explain [FILE]   why a trace is refused: the event, the rule, and the clause of it that is broken\n  chart [FILE]     a sequence chart of one line of a trace, as SVG\n  gen --cover N    a script that is made from N, whose run exercises much; `ace run` runs it\n  rule [NAME]..    what a rule asks: K12 with its clauses, or K12d; without a name the rules\n\nFILE is a trace; `-`, or no file, is standard input. `acetool COMMAND --help` tells more, and\n`acetool --version` the version. Before COMMAND `--color always`, `never` or `auto` says whether\ncheck, batch, explain and rule tell in colours; else they do on a terminal.\n"
 
 abbrev pub check_help : List ℕ
 check_help =
@@ -11,7 +11,7 @@ check_help =
 
 abbrev pub explain_help : List ℕ
 explain_help =
-    codes "usage: acetool explain [--short] [--] [FILE]\n\nSays of the trace what `ace check` says, after FILE:LINE:, and what is wrong there. Of a refused\ntrace it tells the event that is the first to break a rule, and the clause of the rule that is\nbroken.\n\n  --short          the first line alone\n\nstatus: 0 accepted, 1 refused, 3 malformed, 4 unreadable, 7 no memory; 5 the output failed; 2 these\nwords are wrong\n"
+    codes "usage: acetool explain [--short | --json] [--] [FILE]\n\nSays of the trace what `ace check` says, after FILE:LINE:, and what is wrong there. Of a refused\ntrace it tells the event that is the first to break a rule, and the clause of the rule that is\nbroken.\n\n  --short          the first line alone\n  --json           all that there is to say as a JSON object in one line\n\nstatus: 0 accepted, 1 refused, 3 malformed, 4 unreadable, 7 no memory; 5 the output failed; 2 these\nwords are wrong\n"
 
 abbrev pub rule_help : List ℕ
 rule_help =

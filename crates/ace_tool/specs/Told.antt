@@ -45,7 +45,7 @@ abbrev pub check_of : CheckCall → CheckAsked
 check_of call = asked_of call.options call.traces.items
 
 abbrev pub explain_of : ExplainCall → ExplainAsked
-explain_of call = record { trace = call.trace.now; short = call.short }
+explain_of call = record { trace = call.trace.now; form = call.form }
 
 abbrev pub wish_of : Request → Wish
 wish_of Help = wish.Help

@@ -152,8 +152,8 @@ fn shard_by(word: &str, other: &str) -> Option<Shard>
     }
 }
 
-/// The part of the list that the word of an option says, if it is right; without one it is the whole
-/// list.
+/// The part of the list that the word of an option says, if it is right; without one it is the
+/// whole list.
 fn shard_of(word: Option<&str>) -> Option<Shard>
     ensures { MatchOption result
         ((p n : ℕ) → ¬ IsPart (option_map (λ w. w.now) word.entry) p n)

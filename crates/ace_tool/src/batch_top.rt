@@ -195,7 +195,8 @@ fn do_batch<F: Folder, X: Checks + Sync, W: Shelf, I: Source, K: Sink, E: Sink>(
     out: &mut K,
     notes: &mut E,
 ) -> u8
-    ensures done { result ≢ 5 → DoesBatch (F.holds files.now) (X.knows checks.now) (batch_of call.now)
+    ensures done { result ≢ 5 → DoesBatch (F.holds files.now) (X.knows checks.now)
+        (batch_of call.now)
         (I.left input.old) (K.held out.old) (K.held out.new) (E.held notes.old) (E.held notes.new)
         (W.written shelf.old) (W.written shelf.new) result }
     ensures fault { result ≡ 5 → Rose (K.faults out.old) (K.faults out.new)
@@ -229,8 +230,10 @@ pub fn batch<F: Folder, X: Checks + Sync, W: Shelf, I: Source, K: Sink, E: Sink>
     out: &mut K,
     notes: &mut E,
 ) -> u8
-    // Where no output failed, what the words ask was done, or they ask nothing and the usage was told.
-    ensures answer { result ≢ 5 → Batches (F.holds files.now) (X.knows checks.now) (map string_bytes words.now)
+    // Where no output failed, what the words ask was done, or they ask nothing and the usage was
+    // told.
+    ensures answer { result ≢ 5 → Batches (F.holds files.now) (X.knows checks.now)
+        (map string_bytes words.now)
         (I.left input.old) (K.held out.old) (K.held out.new) (E.held notes.old) (E.held notes.new)
         (W.written shelf.old) (W.written shelf.new) result }
 

@@ -71,8 +71,8 @@ impl<'a> BatchWords<'a> {
         self.extras.add_value(option, value)
     }
 
-    /// Takes a word that has its value behind `=`, if it is an option of `batch`, or else as `check`
-    /// does, and says whether it is right there.
+    /// Takes a word that has its value behind `=`, if it is an option of `batch`, or else as
+    /// `check` does, and says whether it is right there.
     fn take_whole(
         &mut self,
         option: Option<BatchValued>,
@@ -104,8 +104,8 @@ impl<'a> BatchWords<'a> {
         }
     }
 
-    /// Takes an option that has a value, or else a word as `check` does, and says whether it is right
-    /// there.
+    /// Takes an option that has a value, or else a word as `check` does, and says whether it is
+    /// right there.
     fn take_valued(&mut self, word: &'a str) -> Result<bool, NoMemory>
         ensures { IfOk result (λ right. with_valued_word word.entry.now self.old
             ≡ if_batch right self.new) }

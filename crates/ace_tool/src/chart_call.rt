@@ -1,6 +1,7 @@
 // What `chart` is asked to do.
 ghost use Rattle.std.specs.Prelude.{◌≤◌};
 
+use ace_chart_rows::Selection;
 use ace_drawing::LineChoice;
 
 /// What `chart` is asked to do.
@@ -14,5 +15,9 @@ pub struct ChartCall<'a> {
     pub line: LineChoice,
     /// The most rows before an event that breaks a rule.
     pub rows: usize,
+    /// Which events of the line are drawn.
+    pub selection: Selection,
+    /// What the picture is called; else by the name of the trace.
+    pub title: Option<&'a str>,
     ghost few: { rows ≤ 1000000 },
 }

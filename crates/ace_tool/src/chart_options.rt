@@ -2,9 +2,13 @@
 ghost use Rattle.std.specs.Prelude.{◌≡◌, ◌≤◌, ℕ, bytes_eq, option_map, IfSome, MatchOption};
 ghost use Rattle.std.specs.Map.{lookup};
 ghost use Rattle.ace_tool.specs.ChartOptions.{AreRows, chart_valued, line_at, line_of_digits, line_of_word, line_said, no_chart_options, with_chart_value};
+ghost use Rattle.ace_chart_rows.specs.declared.selection.Selection.{Selection as Selected};
+ghost use Rattle.ace_tool.specs.ChartSelected.{Selects};
 ghost use Rattle.ace_tool.specs.Told.{if_taken};
 
+use crate::chart_selected::{ports_said, span_said};
 use crate::options::{keep_once, limit_of};
+use ace_chart_rows::Selection;
 use ace_drawing::LineChoice;
 use ace_grammar::number_of;
 use std::marker::Model;
@@ -18,6 +22,14 @@ pub(crate) enum ChartValued {
     Line,
     /// The most rows.
     Rows,
+    /// The numbers of the first and the last event.
+    Events,
+    /// The number of an event in the middle.
+    Around,
+    /// The ports.
+    Port,
+    /// What the picture is called.
+    Title,
 }
 
 /// The most rows where none are asked for.
@@ -31,6 +43,10 @@ pub(crate) fn chart_valued_of(name: &str) -> Option<ChartValued>
         "-o" => Some(ChartValued::Out),
         "--line" => Some(ChartValued::Line),
         "--rows" => Some(ChartValued::Rows),
+        "--events" => Some(ChartValued::Events),
+        "--around" => Some(ChartValued::Around),
+        "--port" => Some(ChartValued::Port),
+        "--title" => Some(ChartValued::Title),
         _ => None,
     }
 }
@@ -41,6 +57,10 @@ pub(crate) struct ChartOptions<'a> {
     out: Option<&'a str>,
     line: Option<&'a str>,
     rows: Option<&'a str>,
+    events: Option<&'a str>,
+    around: Option<&'a str>,
+    port: Option<&'a str>,
+    title: Option<&'a str>,
 }
 
 impl<'a> Model for ChartOptions<'a> {
@@ -53,6 +73,10 @@ impl<'a> Model for ChartOptions<'a> {
       out = option_map (λ word. word.now) o.out;
       line = option_map (λ word. word.now) o.line;
       rows = option_map (λ word. word.now) o.rows;
+      events = option_map (λ word. word.now) o.events;
+      around = option_map (λ word. word.now) o.around;
+      port = option_map (λ word. word.now) o.port;
+      title = option_map (λ word. word.now) o.title;
     } };
 }
 
@@ -124,6 +148,10 @@ impl<'a> ChartOptions<'a> {
             out: None,
             line: None,
             rows: None,
+            events: None,
+            around: None,
+            port: None,
+            title: None,
         }
     }
 
@@ -135,6 +163,10 @@ impl<'a> ChartOptions<'a> {
             ChartValued::Out => keep_once(&mut self.out, value),
             ChartValued::Line => keep_once(&mut self.line, value),
             ChartValued::Rows => keep_once(&mut self.rows, value),
+            ChartValued::Events => keep_once(&mut self.events, value),
+            ChartValued::Around => keep_once(&mut self.around, value),
+            ChartValued::Port => keep_once(&mut self.port, value),
+            ChartValued::Title => keep_once(&mut self.title, value),
         }
     }
 
@@ -159,5 +191,22 @@ impl<'a> ChartOptions<'a> {
         ensures few { IfSome result (λ rows. rows ≤ 1000000) }
     {
         rows_of(self.rows)
+    }
+
+    /// Which events are drawn, if the words that say it are right.
+    #[tactic(auto, using(crate::proofs::ChartSelections::selections))]
+    pub(crate) fn selection(&self) -> Option<Selection>
+        ensures { MatchOption result ((s : Selected) → ¬ Selects self.now s) (Selects self.now) }
+    {
+        let (first, last) = span_said(self.events, self.around)?;
+        let ports = ports_said(self.port)?;
+        Some(Selection { first, last, ports })
+    }
+
+    /// What the picture is called.
+    pub(crate) fn title(&self) -> Option<&'a str>
+        ensures { option_map (λ title. title.now) result ≡ self.now.title }
+    {
+        self.title
     }
 }

@@ -1,19 +1,20 @@
 // The texts of `chart`.
-ghost use Rattle.std.specs.Prelude.{◌≡◌, ◌++◌, IfOk, OnErr, OnOk};
+ghost use Rattle.std.specs.Prelude.{◌≡◌, ◌++◌, option_map, IfOk, OnErr, OnOk};
 ghost use Rattle.std.specs.Io.KnownBytes.{Appends};
 ghost use Rattle.ace_chart.specs.Charts.{IsDrawable};
 ghost use Rattle.ace_convert.specs.Output.{AppendsPart};
 ghost use Rattle.ace_explanation.specs.Refusals.{kept_part, kept_sentence, title, wrong_part};
 ghost use Rattle.ace_io.specs.Faults.{HasCause};
-ghost use Rattle.ace_tool.specs.ChartTexts.{chart_help, kept_below, kept_words, packed_to_draw, picture_text, rows_line, wrong_below, wrong_words};
+ghost use Rattle.ace_tool.specs.ChartTexts.{chart_help, expected_below, expected_of, got_below, got_of, heading_of, kept_below, kept_words, packed_to_draw, picture_text, rows_line, wrong_below, wrong_words};
 
 use crate::explain::{give_five, told_name};
 use crate::line::shown_name;
 use crate::packing::{Packing, advice_of};
 use crate::report::verdict_text;
 use crate::result_parts::wrong_sentence;
-use ace_chart::{Chart, chart_text};
+use ace_chart::{Below, Chart, chart_text};
 use ace_clauses::{ClauseName, Letter};
+use ace_expected::{Expectation, expected_text, got_text};
 use ace_explanation::{Explanation, Refusal};
 use ace_io::{Failed, NoMemory, Sink};
 use ace_malformed::push;
@@ -35,7 +36,11 @@ another the first line.
 
   -o FILE          the picture is written into FILE; else it is told
   --line ADDRESS   the line of this address, in hexadecimal digits; `all` draws each event
+  --events A..B    of these the events from number A to number B alone
+  --around N       as --events from 20 before event N to 20 behind it
+  --port P,..      of these the events of these ports alone
   --rows N         N rows at most before a refused event; else 400
+  --title TEXT     the picture is called so, and not as the file
 
 status: 0 it was drawn, 3 malformed, 4 unreadable, 6 it would have more rows, 7 no memory; 5 an
 output failed; 2 these words are wrong
@@ -117,6 +122,56 @@ fn kept_below(alloc: Global, explanation: &Explanation) -> Result<Vec<u8>, NoMem
     Ok(text)
 }
 
+/// What a clause expects, if it expects a value.
+fn expected_of(alloc: Global, x: &Option<Expectation>) -> Result<Vec<u8>, NoMemory>
+    ensures { IfOk result (λ text. text.items ≡ expected_of x.now) }
+{
+    match x {
+        Some(x) => expected_text(alloc, x),
+        None => Ok(Vec::new(alloc)),
+    }
+}
+
+/// What it got.
+fn got_of(alloc: Global, x: &Option<Expectation>) -> Result<Vec<u8>, NoMemory>
+    ensures { IfOk result (λ text. text.items ≡ got_of x.now) }
+{
+    match x {
+        Some(x) => got_text(alloc, x),
+        None => Ok(Vec::new(alloc)),
+    }
+}
+
+/// What the broken clause expects, of a refused trace.
+fn expected_below(alloc: Global, explanation: &Explanation) -> Result<Vec<u8>, NoMemory>
+    ensures { IfOk result (λ text. text.items ≡ expected_below explanation.now) }
+{
+    match explanation {
+        Explanation::Refused { refusal } => expected_of(alloc, &refusal.expected),
+        _ => Ok(Vec::new(alloc)),
+    }
+}
+
+/// What it got.
+fn got_below(alloc: Global, explanation: &Explanation) -> Result<Vec<u8>, NoMemory>
+    ensures { IfOk result (λ text. text.items ≡ got_below explanation.now) }
+{
+    match explanation {
+        Explanation::Refused { refusal } => got_of(alloc, &refusal.expected),
+        _ => Ok(Vec::new(alloc)),
+    }
+}
+
+/// What a picture is called: by the title that is asked for, or else by the name of the trace.
+fn heading_of<'a>(name: &'a str, title: Option<&'a str>) -> &'a str
+    ensures { result.now ≡ heading_of name.entry.now (option_map (λ t. t.now) title.entry) }
+{
+    match title {
+        Some(title) => title,
+        None => told_name(name),
+    }
+}
+
 /// The picture of the trace of this name.
 ///
 /// # Errors
@@ -125,23 +180,28 @@ fn kept_below(alloc: Global, explanation: &Explanation) -> Result<Vec<u8>, NoMem
 pub(crate) fn picture_text(
     alloc: Global,
     name: &str,
+    heading: Option<&str>,
     chart: &Chart,
     explanation: &Explanation,
 ) -> Result<Vec<u8>, NoMemory>
     requires { IsDrawable chart.now }
-    ensures { IfOk result (λ text. text.items ≡ picture_text name.now chart.now explanation.now) }
+    ensures { IfOk result (λ text. text.items
+        ≡ picture_text name.now (option_map (λ t. t.now) heading.entry) chart.now
+        explanation.now) }
 {
     let verdict = verdict_text(explanation.verdict());
     let wrong = wrong_below(alloc, explanation)?;
     let kept = kept_below(alloc, explanation)?;
-    chart_text(
-        alloc,
-        chart,
-        told_name(name).as_bytes(),
-        verdict.as_bytes(),
-        wrong.as_slice(),
-        kept.as_slice(),
-    )
+    let expected = expected_below(alloc, explanation)?;
+    let got = got_below(alloc, explanation)?;
+    let below = Below {
+        wrong: wrong.as_slice(),
+        kept: kept.as_slice(),
+        expected: expected.as_slice(),
+        got: got.as_slice(),
+    };
+    let name = heading_of(name, heading);
+    chart_text(alloc, chart, name.as_bytes(), verdict.as_bytes(), &below)
 }
 
 /// Tells that the chart would have more rows than so many.
@@ -158,7 +218,7 @@ pub(crate) fn tell_rows<K: Sink>(notes: &mut K, name: &str, rows: usize) -> Resu
         told_name(name),
         ": more than ",
         digits.format(rows),
-        " rows: choose a line by --line, or more rows by --rows",
+        " rows: choose by --line, --events or --port, or more rows by --rows",
         "\n",
     )
 }

@@ -10,7 +10,6 @@ use crate::chart_texts::{chart_help, tell_packed_to_draw, tell_rows};
 use crate::chart_words::chart_call;
 use crate::conclude::note;
 use crate::explain::{tell_explanation, tell_shut};
-use crate::explain_words::ExplainCall;
 use crate::folder::Folder;
 use crate::picture::{NoPicture, Picture, picture_named};
 use crate::request::is_help;
@@ -34,11 +33,7 @@ fn note_reason<E: Sink>(
 {
     match reason {
         NoPicture::Explained { explanation } => {
-            let told = ExplainCall {
-                trace: call.trace,
-                short: true,
-            };
-            tell_explanation(alloc, notes, &told, explanation)
+            tell_explanation(alloc, notes, call.trace, true, explanation)
         }
         NoPicture::TooManyRows => match tell_rows(notes, call.trace, call.rows) {
             Ok(()) => Ok(6),

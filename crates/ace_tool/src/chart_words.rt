@@ -134,11 +134,14 @@ impl<'a> ChartWords<'a> {
         }
         let line = self.given.line()?;
         let rows = self.given.rows()?;
+        let selection = self.given.selection()?;
         Some(ChartCall {
             trace: self.trace.unwrap_or("-"),
             out: self.given.out(),
             line,
             rows,
+            selection,
+            title: self.given.title(),
         })
     }
 }

@@ -183,15 +183,16 @@ impl<'a> CheckWords<'a> {
         }
     }
 
-    /// Whether the next word is taken as it is: it is a name behind `--`, or the value of an option.
+    /// Whether the next word is taken as it is: it is a name behind `--`, or the value of an
+    /// option.
     pub(crate) fn takes_any(&self) -> bool
         ensures { result ≡ (self.now.names_only || is_some self.now.waiting) }
     {
         self.names_only || self.waiting.is_some()
     }
 
-    /// The names of files, and how they are to be checked, if the words are right: standard input isn't
-    /// one of them, and they name no side file.
+    /// The names of files, and how they are to be checked, if the words are right: standard input
+    /// isn't one of them, and they name no side file.
     pub(crate) fn files(self) -> Option<(Vec<&'a str>, CheckOptions<'a>)>
         ensures { MatchOption result
             ((options : Options) → ¬ AreOfFiles self.entry options)

@@ -14,8 +14,8 @@ pub trait Checks {
     /// What is told of the file of this name.
     ghost knows: { Self → List ℕ → Held };
 
-    /// What `check` and `explain` tell of the trace in the file of this path, where it is to be checked
-    /// so.
+    /// What `check` and `explain` tell of the trace in the file of this path, where it is to be
+    /// checked so.
     ///
     /// # Errors
     ///

@@ -31,8 +31,8 @@ pub(crate) struct Examined {
     pub(crate) report: Report,
 }
 
-/// The explanation within limits of the trace that the source gives, of which these first bytes were
-/// taken.
+/// The explanation within limits of the trace that the source gives, of which these first bytes
+/// were taken.
 fn explained_behind<S: Source>(
     alloc: Global,
     source: &mut S,

@@ -3,12 +3,13 @@ ghost use Rattle.std.specs.Prelude.{◌≡◌, ◌≢◌, ◌++◌, IfOk, OnErr,
 ghost use Rattle.std.specs.Io.KnownBytes.{Appends};
 ghost use Rattle.ace_convert.specs.Output.{AppendsPart};
 ghost use Rattle.ace_io.specs.Faults.{HasCause};
-ghost use Rattle.ace_tool.specs.Explaining.{Explains, ExplainsPart, MayBeTold, TellsFinding, TellsPart, packed_line, shut_line, told_name};
+ghost use Rattle.ace_tool.specs.Explaining.{Explains, ExplainsPart, MayBeTold, TellsAs, TellsFinding, TellsPart, TellsPartAs, packed_line, shut_line, told_name};
 ghost use Rattle.ace_tool.specs.Told.{explain_of};
 ghost use Rattle.ace_tool.specs.declared.finding.Finding.TheVariants.{Explained};
 
 use crate::check_words::is_input;
-use crate::explain_words::ExplainCall;
+use crate::explain_json::tell_json;
+use crate::explain_words::{ExplainCall, Form};
 use crate::finding::{Finding, find_named};
 use crate::folder::{Folder, OpenErr};
 use crate::line::shown_name;
@@ -78,18 +79,19 @@ fn tell_packed<K: Sink>(out: &mut K, name: &str, packing: Packing) -> Result<(),
 pub(crate) fn tell_explanation<K: Sink>(
     alloc: Global,
     out: &mut K,
-    call: &ExplainCall<'_>,
+    name: &str,
+    short: bool,
     explanation: Explanation,
 ) -> Result<u8, Failed>
     requires { MayBeTold (Explained explanation) }
-    ensures whole { IfOk result (TellsFinding call.now.trace.now call.now.short
+    ensures whole { IfOk result (TellsFinding name.now short
         (Explained explanation) (K.held out.old) (K.held out.new)) }
-    ensures part { OnErr result (TellsPart call.now.trace.now call.now.short
+    ensures part { OnErr result (TellsPart name.now short
         (Explained explanation) (K.held out.old) (K.held out.new)) }
     ensures no_write_fault { IfOk result (λ status. status ≢ 5) }
     ensures cause { HasCause (K.faults out.old) (K.faults out.new) result }
 {
-    match tell(alloc, out, told_name(call.trace), call.short, explanation) {
+    match tell(alloc, out, told_name(name), short, explanation) {
         Ok(verdict) => Ok(status_of_verdict(verdict)),
         Err(failed) => Err(failed),
     }
@@ -99,27 +101,56 @@ pub(crate) fn tell_explanation<K: Sink>(
 fn tell_finding<K: Sink>(
     alloc: Global,
     out: &mut K,
-    call: &ExplainCall<'_>,
+    name: &str,
+    short: bool,
     finding: Finding,
 ) -> Result<u8, Failed>
     requires { MayBeTold finding }
-    ensures whole { IfOk result (TellsFinding call.now.trace.now call.now.short finding
-        (K.held out.old) (K.held out.new)) }
-    ensures part { OnErr result (TellsPart call.now.trace.now call.now.short finding
-        (K.held out.old) (K.held out.new)) }
+    ensures whole { IfOk result (TellsFinding name.now short finding (K.held out.old)
+        (K.held out.new)) }
+    ensures part { OnErr result (TellsPart name.now short finding (K.held out.old)
+        (K.held out.new)) }
     ensures no_write_fault { IfOk result (λ status. status ≢ 5) }
     ensures cause { HasCause (K.faults out.old) (K.faults out.new) result }
 {
     match finding {
-        Finding::Explained { explanation } => tell_explanation(alloc, out, call, explanation),
-        Finding::Shut { error } => match tell_shut(out, call.trace, error) {
+        Finding::Explained { explanation } => tell_explanation(
+            alloc,
+            out,
+            name,
+            short,
+            explanation,
+        ),
+        Finding::Shut { error } => match tell_shut(out, name, error) {
             Ok(()) => Ok(4),
             Err(failed) => Err(failed),
         },
-        Finding::Compressed { packing } => match tell_packed(out, call.trace, packing) {
+        Finding::Compressed { packing } => match tell_packed(out, name, packing) {
             Ok(()) => Ok(4),
             Err(failed) => Err(failed),
         },
+    }
+}
+
+/// Tells what was found of the trace in the form that is asked for, and returns the status.
+fn tell_as<K: Sink>(
+    alloc: Global,
+    out: &mut K,
+    call: &ExplainCall<'_>,
+    finding: Finding,
+) -> Result<u8, Failed>
+    requires { MayBeTold finding }
+    ensures whole { IfOk result (TellsAs call.now.form call.now.trace.now finding
+        (K.held out.old) (K.held out.new)) }
+    ensures part { OnErr result (TellsPartAs call.now.form call.now.trace.now finding
+        (K.held out.old) (K.held out.new)) }
+    ensures no_write_fault { IfOk result (λ status. status ≢ 5) }
+    ensures cause { HasCause (K.faults out.old) (K.faults out.new) result }
+{
+    match call.form {
+        Form::Whole => tell_finding(alloc, out, call.trace, false, finding),
+        Form::Short => tell_finding(alloc, out, call.trace, true, finding),
+        Form::Json => tell_json(alloc, out, call.trace, &finding),
     }
 }
 
@@ -143,5 +174,5 @@ pub(crate) fn explain_trace<F: Folder, I: Source, K: Sink>(
     ensures cause { HasCause (K.faults out.old) (K.faults out.new) result }
 {
     let finding = find_named(alloc, files, input, call.trace);
-    tell_finding(alloc, out, call, finding)
+    tell_as(alloc, out, call, finding)
 }

@@ -1,25 +1,36 @@
 // The words behind `explain`, taken one after another.
 ghost use Rattle.std.specs.Prelude.{◌≡◌, Some, map, string_bytes, option_map};
-ghost use Rattle.ace_tool.specs.ExplainAsked.{explain_asked, explain_with, finished, nothing_to_explain, with_name};
+ghost use Rattle.ace_tool.specs.ExplainAsked.{explain_asked, explain_with, finished, nothing_to_explain, with_form, with_name};
 ghost use Rattle.ace_tool.specs.Told.{explain_of, if_taken};
 
 use crate::check_words::{has_hyphen, is_input};
 use std::marker::Model;
+
+/// In which form it is told of a trace.
+#[derive(Clone, Copy)]
+pub enum Form {
+    /// In all its lines.
+    Whole,
+    /// In its first line alone.
+    Short,
+    /// As a JSON object.
+    Json,
+}
 
 /// What `explain` is asked to do.
 #[derive(Clone, Copy)]
 pub struct ExplainCall<'a> {
     /// The name of the trace.
     pub trace: &'a str,
-    /// The first line alone is to be told.
-    pub short: bool,
+    /// In which form it is told of.
+    pub form: Form,
 }
 
 /// What the words so far ask. A word that is wrong ends it: what it holds then says nothing.
 #[derive(Drop)]
 struct ExplainWords<'a> {
     trace: Option<&'a str>,
-    short: bool,
+    form: Form,
     names_only: bool,
 }
 
@@ -31,7 +42,7 @@ impl<'a> Model for ExplainWords<'a> {
 
     ghost view = { λ w. record {
       trace = option_map (λ name. name.now) w.trace;
-      short = w.short;
+      form = w.form;
       names_only = w.names_only;
     } };
 }
@@ -43,7 +54,7 @@ impl<'a> ExplainWords<'a> {
     {
         ExplainWords {
             trace: None,
-            short: false,
+            form: Form::Whole,
             names_only: false,
         }
     }
@@ -59,6 +70,19 @@ impl<'a> ExplainWords<'a> {
         true
     }
 
+    /// Takes the form, and says whether it is right there.
+    fn take_form(&mut self, form: Form) -> bool
+        ensures { with_form form self.old ≡ if_taken result self.new }
+    {
+        match (self.form, form) {
+            (Form::Whole, _) | (Form::Short, Form::Short) | (Form::Json, Form::Json) => {
+                self.form = form;
+                true
+            }
+            _ => false,
+        }
+    }
+
     /// Takes the next word, and says whether it is right there.
     fn take(&mut self, word: &'a str) -> bool
         ensures { explain_with word.entry.now self.old ≡ if_taken result self.new }
@@ -69,8 +93,9 @@ impl<'a> ExplainWords<'a> {
             self.names_only = true;
             true
         } else if word == "--short" {
-            self.short = true;
-            true
+            self.take_form(Form::Short)
+        } else if word == "--json" {
+            self.take_form(Form::Json)
         } else if has_hyphen(word) && !is_input(word) {
             false
         } else {
@@ -84,7 +109,7 @@ impl<'a> ExplainWords<'a> {
     {
         ExplainCall {
             trace: self.trace.unwrap_or("-"),
-            short: self.short,
+            form: self.form,
         }
     }
 }

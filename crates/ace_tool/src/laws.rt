@@ -12,7 +12,8 @@ use ace_verdict::laws::one_verdict_is_due;
 /// Where the status of many traces is 0, each is whole, also by its side file, and has all that
 /// acceptance promises.
 pub fn accepted_traces_are_sound()
-    ensures { (options : Options) (holds : List ℕ → Held) (input left : Option (List ℕ)) (checked : List Checked)
+    ensures { (options : Options) (holds : List ℕ → Held) (input left : Option (List ℕ))
+        (checked : List Checked)
         → AreRight options holds input checked left → status_of_all (statuses_of checked) ≡ 0
         → AreSound options holds input checked }
 {

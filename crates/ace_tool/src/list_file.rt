@@ -91,7 +91,8 @@ pub(crate) fn read_list<F: Folder, I: Source>(
     input: &mut I,
     name: &str,
 ) -> Result<String, ListErr>
-    ensures { IfOk result (λ text. IsListText (is_input name.now) (told_of (F.holds files.now name.now))
+    ensures { IfOk result (λ text. IsListText (is_input name.now)
+        (told_of (F.holds files.now name.now))
         (I.left input.old) (string_bytes text)) }
 {
     if is_input(name) {

@@ -144,8 +144,8 @@ fn tell_summary<K: Sink, E: Sink>(
     }
 }
 
-/// Does what the words behind `batch --merge` ask, which are names of files: puts the results of the
-/// parts of a list in these files together, tells their summary, and returns their status.
+/// Does what the words behind `batch --merge` ask, which are names of files: puts the results of
+/// the parts of a list in these files together, tells their summary, and returns their status.
 #[tactic(auto, using(crate::proofs::MergeSteps::done))]
 pub fn merge<F: Folder, K: Sink, E: Sink>(
     alloc: Global,

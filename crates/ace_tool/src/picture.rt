@@ -67,11 +67,11 @@ fn picture_of_chart(
 ) -> Picture
     requires { IsDrawable chart.now }
     ensures right { (bytes : List ℕ)
-        → IsDrawn no_limits bytes call.now.line chart.now explanation.now
+        → IsDrawn no_limits bytes call.now.line call.now.selection chart.now explanation.now
         → IsPictureIn (chart_of call.now) bytes result }
     ensures line { MayBeShown result }
 {
-    match picture_text(alloc, call.trace, chart, explanation) {
+    match picture_text(alloc, call.trace, call.title, chart, explanation) {
         Ok(text) => Picture::Drawn { text },
         Err(NoMemory) => undrawn(Verdict::NoMemory),
     }
@@ -80,7 +80,8 @@ fn picture_of_chart(
 /// The picture of what is drawn.
 fn picture_of(alloc: Global, call: &ChartCall<'_>, drawing: &Drawing) -> Picture
     requires { MayBeDrawn drawing.now }
-    ensures right { (bytes : List ℕ) → IsDrawing no_limits bytes call.now.line drawing.now
+    ensures right { (bytes : List ℕ)
+        → IsDrawing no_limits bytes call.now.line call.now.selection drawing.now
         → IsPictureIn (chart_of call.now) bytes result }
     ensures line { MayBeShown result }
 {
@@ -107,7 +108,14 @@ fn picture_in(alloc: Global, call: &ChartCall<'_>, bytes: &[u8]) -> Picture
             reason: NoPicture::Compressed { packing },
         },
         None => {
-            let drawing = drawing_of(alloc, bytes, no_limits(), call.line, call.rows);
+            let drawing = drawing_of(
+                alloc,
+                bytes,
+                no_limits(),
+                call.line,
+                &call.selection,
+                call.rows,
+            );
             picture_of(alloc, call, &drawing)
         }
     }

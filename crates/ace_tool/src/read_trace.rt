@@ -21,8 +21,8 @@ use ace_verdict::{Ended, Limits, Verdict, ended_within};
 use arrayvec::ArrayVec;
 use std::alloc::Global;
 
-/// The verdict on the trace that the source gives, of which these first bytes were taken, and what is
-/// outstanding at its end.
+/// The verdict on the trace that the source gives, of which these first bytes were taken, and what
+/// is outstanding at its end.
 fn ended_behind<S: Source>(
     alloc: Global,
     source: &mut S,

@@ -21,8 +21,8 @@ pub struct Accepted {
 /// What is told of a trace.
 #[derive(Clone, Copy)]
 pub enum Report {
-    /// The verdict on it, and how many transactions are outstanding at the end of an accepted trace;
-    /// else 0.
+    /// The verdict on it, and how many transactions are outstanding at the end of an accepted
+    /// trace; else 0.
     Told { verdict: Verdict, outstanding: u64 },
     /// Its file could not be opened.
     Shut { error: OpenErr },

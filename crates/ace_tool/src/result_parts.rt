@@ -3,7 +3,7 @@ ghost use Rattle.std.specs.Prelude.{◌≡◌, ◌++◌, decimal, OnOk};
 ghost use Rattle.ace_explanation.specs.Refusals.{wrong_sentence};
 ghost use Rattle.ace_tool.specs.Explaining.{MayBeTold};
 ghost use Rattle.ace_tool.specs.Reports.{report_text};
-ghost use Rattle.ace_tool.specs.Results.{events_of, line_of_result, message_of, message_of_report, outcome_of, outcome_of_fault, outcome_of_verdict, outstanding_of, side_line, side_line_words, side_words, signature_of, signature_of_report};
+ghost use Rattle.ace_tool.specs.Results.{events_of, line_of_result, message_of, message_of_report, outcome_of, outcome_of_fault, outstanding_of, side_line, side_line_words, side_words, signature_of, signature_of_report};
 
 use crate::finding::Finding;
 use crate::line::said_of;
@@ -11,6 +11,7 @@ use crate::report::Report;
 use crate::side::SideFault;
 use ace_batch::Outcome;
 use ace_clauses::{ClauseName, Letter};
+use ace_explain_json::outcome_of_verdict;
 use ace_explanation::Explanation;
 use ace_io::NoMemory;
 use ace_malformed::push_wrong;
@@ -19,21 +20,7 @@ use ace_verdict::Verdict;
 use ace_words::wrong_with;
 use itoa::Buffer;
 
-/// How a check came out, by its verdict.
-fn outcome_of_verdict(verdict: Verdict) -> Outcome
-    ensures { result ≡ outcome_of_verdict verdict }
-{
-    match verdict {
-        Verdict::Accepted { .. } => Outcome::Accepted,
-        Verdict::Refused { .. } => Outcome::Refused,
-        Verdict::Malformed { .. } => Outcome::Malformed,
-        Verdict::ReadFault => Outcome::Unreadable,
-        Verdict::LimitEvents | Verdict::LimitLines => Outcome::Limited,
-        Verdict::NoMemory => Outcome::NoMemory,
-    }
-}
-
-/// The same, where the side file tells nothing.
+/// How a check came out, where the side file tells nothing.
 fn outcome_of_fault(fault: SideFault) -> Outcome
     ensures { result ≡ outcome_of_fault fault }
 {

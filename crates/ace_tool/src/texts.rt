@@ -15,10 +15,12 @@ Checks traces of AMBA ACE. The verdict is always that of `ace check`.
   cover FILE..     what accepted traces exercised, and what none of them did
   explain [FILE]   why a trace is refused: the event, the rule, and the clause of it that is broken
   chart [FILE]     a sequence chart of one line of a trace, as SVG
+  gen --cover N    a script that is made from N, whose run exercises much; `ace run` runs it
   rule [NAME]..    what a rule asks: K12 with its clauses, or K12d; without a name the rules
 
 FILE is a trace; `-`, or no file, is standard input. `acetool COMMAND --help` tells more, and
-`acetool --version` the version.
+`acetool --version` the version. Before COMMAND `--color always`, `never` or `auto` says whether
+check, batch, explain and rule tell in colours; else they do on a terminal.
 "
 }
 
@@ -51,13 +53,14 @@ are wrong
 pub(crate) fn explain_help() -> &'static str
     ensures { result.now ≡ explain_help }
 {
-    "usage: acetool explain [--short] [--] [FILE]
+    "usage: acetool explain [--short | --json] [--] [FILE]
 
 Says of the trace what `ace check` says, after FILE:LINE:, and what is wrong there. Of a refused
 trace it tells the event that is the first to break a rule, and the clause of the rule that is
 broken.
 
   --short          the first line alone
+  --json           all that there is to say as a JSON object in one line
 
 status: 0 accepted, 1 refused, 3 malformed, 4 unreadable, 7 no memory; 5 the output failed; 2 these
 words are wrong

@@ -19,7 +19,10 @@ const LABEL: &str = ">AR ReadShared</text>\n";
 /// What is told below a trace that is refused.
 const WRONG: &str = ">K22a: the port acknowledges, and no read of it is complete</text>\n";
 
-const DRAWN: [Row; 10] = [
+/// What stands where one event is left out.
+const LEFT_OUT: &str = ">1 left out</text>\n";
+
+const DRAWN: [Row; 17] = [
     ("line", 0, "", LABEL),
     ("--line 40 line", 0, "", LABEL),
     ("line --line=0000007f", 0, "", LABEL),
@@ -30,6 +33,13 @@ const DRAWN: [Row; 10] = [
     ("", 0, "", ">&lt;stdin&gt;</text>\n"),
     ("-", 0, "", ">accepted 0</text>\n"),
     ("refused", 0, "", WRONG),
+    ("--events 1..1 --line all two_lines", 0, "", LEFT_OUT),
+    ("--events=2..9 --line all two_lines", 0, "", LEFT_OUT),
+    ("--port 1 --line all two_lines", 0, "", LEFT_OUT),
+    ("--port 31,0 --line=all two_lines", 0, "", LEFT_OUT),
+    ("--around 21 line", 0, "", LABEL),
+    ("--around 22 line", 0, "", LEFT_OUT),
+    ("--title a<b line", 0, "", ">a&lt;b</text>\n"),
 ];
 
 const UNDRAWN: [Row; 8] = [
@@ -58,13 +68,13 @@ const UNDRAWN: [Row; 8] = [
     (
         "--rows 0 line",
         6,
-        "line: more than 0 rows: choose a line by --line, or more rows by --rows\n",
+        "line: more than 0 rows: choose by --line, --events or --port, or more rows by --rows\n",
         "",
     ),
 ];
 
 /// Words that are wrong.
-const WRONG_WORDS: [&str; 13] = [
+const WRONG_WORDS: [&str; 25] = [
     "line line",
     "--bogus line",
     "-x",
@@ -78,6 +88,18 @@ const WRONG_WORDS: [&str; 13] = [
     "--rows 01 line",
     "-o",
     "--help line",
+    "--events 2..1 line",
+    "--events 1.2 line",
+    "--events 1..x line",
+    "--events 1 line",
+    "--events 1..2 --around 1 line",
+    "--around 01 line",
+    "--port 32 line",
+    "--port 0, line",
+    "--port= line",
+    "--port 0 --port 1 line",
+    "--title a --title b line",
+    "--title",
 ];
 
 /// Keeps the text of the last file that was put; one file can't be written.
@@ -117,7 +139,7 @@ struct Answered {
 fn call(alloc: Global, words: &str, room: usize) -> Result<Answered, Fail> {
     let mut input = MemSource::new(alloc, INPUT.as_bytes(), &[2], &[])?;
     let mut out = MemSink::new(alloc, room, &[])?;
-    let mut notes = MemSink::new(alloc, 999, &[])?;
+    let mut notes = MemSink::new(alloc, 2000, &[])?;
     let mut files = Files {
         text: Vec::new(alloc),
         faults: 0,

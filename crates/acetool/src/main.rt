@@ -4,34 +4,58 @@
 
 use ace_batch::Entry;
 use ace_call::read_words;
+use ace_cover_script::generate;
 use ace_io::{Failed, NoMemory, StdSink, StdSource};
 use ace_retry::Patient;
+use ace_terminal::{
+    Clearing, Painter, Progress, Tally, Watched, is_painted, is_screen, shows_colours, split_wish,
+};
 use ace_tool::{
     CheckOptions, Checks, Folder, OpenErr, Shelf, acetool, batch, chart, cover, merge, result_in,
     tell_no_memory,
 };
 use std::alloc::Global;
-use std::fs::File;
-use std::io::{ErrorKind, Write};
+use std::fs::{File, OpenFile};
+use std::io::{ErrorKind, IsTerminal, Stdin, Write};
 use std::process::ExitCode;
 use std::{fs, io};
 
-/// The files of the machine.
+/// A reader whose reading is shown.
+type Shown<'a, T> = Watched<'a, Patient<T>, HostRuntime>;
+
+/// The files of the machine. Those of a batch are counted, and else their reading is shown.
 #[derive(Drop)]
 struct Disk<'a> {
     rt: &'a HostRuntime,
+    progress: &'a Progress<'a, HostRuntime>,
+    is_batch: bool,
+    tally: Tally<'a, HostRuntime>,
+}
+
+impl<'a> Disk<'a> {
+    /// The file of this name, whose reading is shown where that is wanted.
+    fn shown(&self, file: File, name: &str) -> Shown<'a, File> {
+        if self.is_batch || !self.progress.shows() {
+            return Watched::new(Patient::new(file), None, "", 0);
+        }
+        let size = match file.metadata() {
+            Ok(metadata) => metadata.len(),
+            Err(_) => 0,
+        };
+        Watched::new(Patient::new(file), Some(self.progress), name, size)
+    }
 }
 
 impl<'a> Folder for Disk<'a> {
-    type File = StdSource<Patient<File>>;
+    type File = StdSource<Shown<'a, File>>;
 
     ghost use Rattle.ace_tool.specs.Held.{Untold};
 
     ghost holds = { λ _ _. Untold };
 
-    fn open(&self, name: &str) -> Result<StdSource<Patient<File>>, OpenErr> {
+    fn open(&self, name: &str) -> Result<StdSource<Shown<'a, File>>, OpenErr> {
         match fs::open(self.rt, name) {
-            Ok(file) => Ok(StdSource::new(Patient::new(file))),
+            Ok(file) => Ok(StdSource::new(self.shown(file, name))),
             Err(error) => Err(match error.kind() {
                 ErrorKind::NotFound => OpenErr::NotThere,
                 ErrorKind::InvalidFilename => OpenErr::NoName,
@@ -53,7 +77,12 @@ impl<'a> Checks for Disk<'a> {
         path: &str,
         options: &CheckOptions<'_>,
     ) -> Result<Entry, NoMemory> {
-        result_in(alloc, self, path, options)
+        let result = result_in(alloc, self, path, options);
+        self.tally.add(match &result {
+            Ok(entry) => entry.outcome.status() != 0,
+            Err(_) => true,
+        });
+        result
     }
 }
 
@@ -87,15 +116,42 @@ fn write_file(rt: &HostRuntime, name: &str, text: &[u8]) -> io::Result<()> {
     file.flush()
 }
 
+/// Standard input, whose reading is shown where it is no terminal and that is wanted.
+fn shown_input<'a>(rt: &HostRuntime, progress: &'a Progress<'a, HostRuntime>) -> Shown<'a, Stdin> {
+    let input = rt.stdin();
+    if progress.shows() && !input.is_terminal() {
+        Watched::new(Patient::new(input), Some(progress), "<stdin>", 0)
+    } else {
+        Watched::new(Patient::new(input), None, "", 0)
+    }
+}
+
+/// Whether the words ask for a batch.
+fn is_batch(words: &[String]) -> bool {
+    match words.split_first() {
+        Some((word, _)) => word.as_str() == "batch",
+        None => false,
+    }
+}
+
 fn main(rt: HostRuntime) -> ExitCode {
-    let mut input = StdSource::new(Patient::new(rt.stdin()));
-    let mut out = StdSink::new(Patient::new(rt.stdout()));
-    let mut notes = StdSink::new(Patient::new(rt.stderr()));
+    let progress = Progress::new(&rt, is_screen(&rt, &rt.stderr()));
+    let mut notes = Clearing::new(StdSink::new(Patient::new(rt.stderr())), &progress);
     let Some(words) = read_words(&rt) else {
         return ExitCode::from(tell_no_memory(&mut notes));
     };
-    let files = Disk { rt: &rt };
-    let status = match words.as_slice() {
+    let (when, words) = split_wish(words.as_slice());
+    let paints = is_painted(when, words, shows_colours(&rt, &rt.stdout()));
+    let told = Clearing::new(StdSink::new(Patient::new(rt.stdout())), &progress);
+    let mut out = Painter::new(rt.alloc(), told, paints);
+    let mut input = StdSource::new(shown_input(&rt, &progress));
+    let files = Disk {
+        rt: &rt,
+        progress: &progress,
+        is_batch: is_batch(words),
+        tally: Tally::new(&progress),
+    };
+    let status = match words {
         [word, second, rest @ ..] if word.as_str() == "batch" && second.as_str() == "--merge" => {
             merge(rt.alloc(), rest, &files, &mut out, &mut notes)
         }
@@ -122,7 +178,11 @@ fn main(rt: HostRuntime) -> ExitCode {
         [word, rest @ ..] if word.as_str() == "cover" => {
             cover(rt.alloc(), rest, &files, &mut input, &mut out, &mut notes)
         }
+        [word, rest @ ..] if word.as_str() == "gen" => {
+            generate(rt.alloc(), rest, &mut out, &mut notes)
+        }
         words => acetool(rt.alloc(), words, &files, &mut input, &mut out, &mut notes),
     };
+    progress.wipe();
     ExitCode::from(status)
 }

@@ -1,5 +1,5 @@
-use Rattle.std.proofs.Common.{◌≡◌, ◌≤◌, ◌-◌, ◌^◌, None, length, reverse, take}
-use Rattle.ace_chart_rows.specs.Rows.{rows_of}
+use Rattle.std.proofs.Common.{◌≤◌, ◌-◌, ◌^◌, None, length, reverse, take}
+use Rattle.ace_chart_rows.specs.Charts.{AreDrawn}
 use Rattle.ace_check.specs.Run.{StandsWithin}
 use Rattle.ace_chart_rows.proofs.collect.follow.Given as goal
 
@@ -7,6 +7,6 @@ use Rattle.ace_chart_rows.proofs.collect.follow.Given as goal
 abbrev pub invariant-loop-event : goal.invariant-loop-event
 invariant-loop-event l = record {
   stands : StandsWithin (2 ^ 64 - 1) l.checker l.header (reverse (take l.event-index l.events)) None;
-  rows : l.rows.items ≡ rows_of l.header (reverse (take l.event-index l.events)) l.line;
-  few : length l.rows.items ≤ l.most;
+  drawn : AreDrawn l.header (reverse (take l.event-index l.events)) l.line l.selection l.collected;
+  few : length l.collected.rows.items ≤ l.most;
 }

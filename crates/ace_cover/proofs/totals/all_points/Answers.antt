@@ -4,6 +4,8 @@ use Rattle.ace_cover.proofs.totals.all_points.Goals as goal
 pub returns : goal.returns
 returns c =
     rw (
+      c.in_ok-push_points-9.ensures,
+      c.in_ok-push_points-8.ensures,
       c.in_ok-push_points-7.ensures,
       c.in_ok-push_points-6.ensures,
       c.in_ok-push_points-5.ensures,
@@ -19,5 +21,7 @@ returns c =
       c.answer_points.ensures,
       c.update_points.ensures,
       c.silent_points.ensures,
+      c.rule_points.ensures,
+      c.situation_points.ensures,
     )
     refl

@@ -6,7 +6,7 @@ use Rattle.ace_sysck.specs.Stands.{Stands as SystemTells}
 use Rattle.ace_explanation.proofs.follow.refuse.Goals as goal
 
 pub returns-clause-breaks : goal.returns-clause-breaks
-returns-clause-breaks c lines past b stands loads journal line row broken =
+returns-clause-breaks c lines past b stands loads journal since line row broken =
     let r : Recording = record { header = c.args.header; past = past } in
     let tell = c.shares-shares.ensures lines c.args.header past b stands in
     let ports = subst (λ s. PortsTell s r) (sym c.ports-ports.ensures) tell.ports in
@@ -16,6 +16,6 @@ returns-clause-breaks c lines past b stands loads journal line row broken =
       refl,
       c.clause-found.ensures c.args.header past tell loads broken,
       c.expectation.ensures r ports kept system,
-      c.before_event.ensures r ports kept,
-      c.led.ensures c.args.header past c.args.event.now journal line row,
+      c.before_event.ensures r ports kept since,
+      c.led.ensures c.args.header past c.args.event.now journal line row (c.next_transfers.ensures r ports),
     )

@@ -1,0 +1,4 @@
+pub mod Headers
+pub mod Covering
+pub mod Telling
+pub mod Wishes

@@ -1,0 +1,4 @@
+pub mod Covering
+pub mod Generates
+pub mod Shapes
+pub mod Texts

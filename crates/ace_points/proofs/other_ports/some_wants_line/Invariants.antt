@@ -1,0 +1,10 @@
+use Rattle.std.proofs.Common.{◌≡◌}
+use Rattle.std.specs.List.{list_any}
+use Rattle.ace_model.specs.Grants.{ports_below}
+use Rattle.ace_points.specs.Asked.{wants_line}
+use Rattle.ace_portck.specs.Stands.{Stands}
+use Rattle.ace_portck.specs.Targets.{Recording}
+use Rattle.ace_points.proofs.other_ports.some_wants_line.Given as goal
+
+abbrev pub invariant-loop-port : goal.invariant-loop-port
+invariant-loop-port l = (r : Recording) → Stands l.ports r → l.any ≡ list_any (wants_line r.header r.past l.x) (ports_below l.port)

@@ -1,0 +1,15 @@
+use Rattle.std.proofs.Common.{◌≡◌}
+use Rattle.std.specs.List.{list_any}
+use Rattle.ace_model.specs.Grants.{ports_below}
+use Rattle.ace_points.specs.Asked.{wants_line}
+use Rattle.ace_points.specs.Situations.{some_two}
+use Rattle.ace_portck.specs.Targets.{Recording}
+use Rattle.ace_portck.specs.Stands.{Stands}
+use Rattle.ace_points.proofs.other_ports.two_want_line.Given as goal
+
+-- one, and two, of the ports so far pass the test
+abbrev pub invariant-loop-port : goal.invariant-loop-port
+invariant-loop-port l = record {
+  one : (r : Recording) → Stands l.ports r → l.any ≡ list_any (wants_line r.header r.past l.x) (ports_below l.port);
+  both : (r : Recording) → Stands l.ports r → l.two ≡ some_two (wants_line r.header r.past l.x) (ports_below l.port);
+}

@@ -1,0 +1,4 @@
+mod Stays
+mod Kept
+mod Writes
+mod Hearing
