@@ -1,6 +1,6 @@
 //! The Syncs that reach the ports, and the DVM Completes of the ports.
 
-ghost use Rattle.std.specs.Prelude.{◌≡◌};
+ghost use Rattle.std.specs.Prelude.{◌≡◌, nat_le, slice_index_or};
 ghost use Rattle.ace_sysck.specs.Syncs.{next_count, reached_by, one_answered, one_completed};
 
 use crate::entries::{entry_or, set_entry};
@@ -71,6 +71,16 @@ fn one_completed(kept: PortSyncs) -> PortSyncs
     }
 }
 
+/// The port of which this is kept has issued its DVM Complete for the last Sync of the sender.
+#[inline(always)]
+fn has_come_to(kept: &PortSyncs, sender: u8) -> bool
+    ensures { result ≡ nat_le (slice_index_or kept.now.numbers sender 0) kept.now.completes }
+{
+    let p = sender as usize;
+    let number = if p < 32 { kept.numbers[p] } else { 0 };
+    number <= kept.completes
+}
+
 impl Syncs {
     ghost use Rattle.std.specs.Prelude.{◌≡◌, ℕ, [], ◌==◌, true, Some, IfOk, slice_set, slice_index_or, nat_le, nat_lt};
     ghost use Rattle.ace_codes.specs.declared.state.LineState.{LineState};
@@ -120,21 +130,26 @@ impl Syncs {
     {
         let mut all = true;
         for q in 0..header.ports {
-            all = (!(is_ace(header, q) && q != port) || self.has_completed(q, port)) && all;
+            if all {
+                all = !(is_ace(header, q) && q != port) || self.has_completed(q, port);
+            }
         }
         all
     }
 
     /// The port has issued its DVM Complete for the last Sync of the sender.
+    #[inline(always)]
     fn has_completed(&self, q: u8, sender: u8) -> bool
         ensures { result ≡ nat_le (slice_index_or
             (slice_index_or self.now.ports.items q untold).numbers sender 0)
             (slice_index_or self.now.ports.items q untold).completes }
     {
-        let kept = entry_or(&self.ports, q, UNTOLD);
-        let p = sender as usize;
-        let number = if p < 32 { kept.numbers[p] } else { 0 };
-        number <= kept.completes
+        let q = q as usize;
+        if q < self.ports.len() {
+            has_come_to(&self.ports[q], sender)
+        } else {
+            has_come_to(&UNTOLD, sender)
+        }
     }
 
     /// The sender has issued a Sync.
