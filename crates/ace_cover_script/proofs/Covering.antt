@@ -19,43 +19,13 @@ use Rattle.ace_model.specs.declared.plans.Op.{Op}
 use Rattle.ace_model.specs.declared.plans.Op.TheVariants.{Ld, Ldx, St, Stx, Fill, Pf, Wb, Wc, Ev, We, Ro, Cs, Ci, Mi, Rn, Wu, Wlu, Wn, Mb, Sb, Dvm, Sync, Dvm2}
 use Rattle.ace_model.specs.declared.plans.PlanOp.{PlanOp}
 use Rattle.ace_model.specs.Plans.{PlanWithRoom, IsRightAfter, longer, line_named, wants_no_snoop, is_lite_operation, is_in_range, is_word_number, is_of_one_class, is_lone_word, is_first_word}
+pub use Rattle.ace_script.proofs.GeneratedPlans.{IsParted}
+use Rattle.ace_script.proofs.GeneratedPlans.{parted_all}
 use Rattle.ace_script.specs.Generated.{repeated, repeated_line}
 use Rattle.ace_cover_script.specs.Covering.{places_of, message_word, access_op, fetch_kind, yielding_op, shared_op, ace_op, drawn_operation, drawn, covering_of, covering_count}
 use Rattle.ace_cover_script.specs.Shapes.{IsShape, header_of, policy_of}
 use Rattle.ace_cover_script.specs.declared.places.Places.{Places}
 use Rattle.ace_cover_script.specs.declared.shape.Shape.{Shape}
-
--- the lines from 8000 on are those that aren't snooped
-abbrev pub IsParted : Op → Type 0
-IsParted op = is_none_or (line_named op) (λ a. same_test (wants_no_snoop op) (leb 0x8000 a)) ≡ true
-
-same_both : (p q r : Bool) → same_test p r ≡ true → same_test q r ≡ true → same_test p q ≡ true
-same_both true true r h k = refl
-same_both false false r h k = refl
-same_both true false true h k = absurd cc
-same_both true false false h k = absurd cc
-same_both false true true h k = absurd cc
-same_both false true false h k = absurd cc
-
--- so two operations are of one class
-parted_class : (m n : Option ℕ) (p q : Bool) → is_none_or m (λ a. same_test p (leb 0x8000 a)) ≡ true → is_none_or n (λ b. same_test q (leb 0x8000 b)) ≡ true
-    → is_none_or m (λ a. implies (is_some_and n (λ b. eqb b a)) (same_test p q)) ≡ true
-parted_class None n p q h k = refl
-parted_class (Some a) None p q h k = refl
-parted_class (Some a) (Some b) p q h k =
-    elim (cases_Bool (eqb b a)) [
-      | inl is ↦
-          let same : b ≡ a = eqb-true b a is in
-          let k' : same_test q (leb 0x8000 a) ≡ true = ap (λ c. same_test q (leb 0x8000 c)) (sym same) ∙ k in
-          ap (λ t. implies t (same_test p q)) is ∙ same_both p q (leb 0x8000 a) h k'
-      | inr other ↦ ap (λ t. implies t (same_test p q)) other
-    ]
-
-parted_all : (op : Op) (before : List PlanOp) → IsParted op → AllByRecursion (λ o. IsParted o.op) before → list_all (λ other. is_of_one_class op other.op) before ≡ true
-parted_all op [] h all = refl
-parted_all op (o ∷ before) h all =
-    and_from (is_of_one_class op o.op) (list_all (λ other. is_of_one_class op other.op) before)
-    (parted_class (line_named op) (line_named o.op) (wants_no_snoop op) (wants_no_snoop o.op) h all.0) (parted_all op before h all.1)
 
 -- ---- what is drawn
 

@@ -48,7 +48,7 @@ parted_class (Some a) (Some b) p q h k =
       | inr other ↦ ap (λ t. implies t (same_test p q)) other
     ]
 
-parted_all : (op : Op) (before : List PlanOp) → IsParted op → AllByRecursion (λ o. IsParted o.op) before → list_all (λ other. is_of_one_class op other.op) before ≡ true
+pub parted_all : (op : Op) (before : List PlanOp) → IsParted op → AllByRecursion (λ o. IsParted o.op) before → list_all (λ other. is_of_one_class op other.op) before ≡ true
 parted_all op [] h all = refl
 parted_all op (o ∷ before) h all =
     and_from (is_of_one_class op o.op) (list_all (λ other. is_of_one_class op other.op) before)
