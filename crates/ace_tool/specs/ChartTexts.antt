@@ -12,7 +12,8 @@ use Rattle.ace_explanation.specs.declared.refusal.Refusal.{Refusal}
 use Rattle.ace_pages.specs.Pages.{page_name}
 use Rattle.ace_tool.specs.Explaining.{told_name}
 use Rattle.ace_tool.specs.Packing.{advice_of}
-use Rattle.ace_tool.specs.Reports.{shown_name, verdict_text}
+use Rattle.ace_explanation.specs.Texts.{verdict_text}
+use Rattle.ace_tool.specs.Reports.{shown_name}
 use Rattle.ace_tool.specs.declared.packing.Packing.{Packing}
 
 abbrev pub chart_help : List ℕ

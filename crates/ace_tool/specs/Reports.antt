@@ -1,7 +1,7 @@
 -- What is told of a trace: its status and its text.
 use Rattle.std.specs.Prelude.{ℕ, List, [], ◌∷◌, ◌++◌, ◌==◌, if◌then◌else◌, Some, None, codes, decimal}
 use Rattle.std.specs.List.{list_any}
-use Rattle.ace_grammar.specs.Reasons.{number_of_reason}
+use Rattle.ace_explanation.specs.Texts.{verdict_text}
 use Rattle.ace_verdict.specs.declared.verdict.Verdict.{Verdict}
 use Rattle.ace_verdict.specs.declared.verdict.Verdict.TheVariants.{Accepted, Refused, Malformed, ReadFault, LimitEvents, LimitLines, NoMemory}
 use Rattle.ace_outstanding.specs.Words.{outstanding_note, outstanding_words}
@@ -51,18 +51,6 @@ first_of (status ∷ order) statuses =
 abbrev pub status_of_all : List ℕ → ℕ
 status_of_all [] = 2
 status_of_all (status ∷ rest) = first_of (1 ∷ 3 ∷ 8 ∷ 6 ∷ 4 ∷ 7 ∷ []) (status ∷ rest)
-
--- a verdict, as `ace check` says it
-abbrev pub verdict_text : Verdict → List ℕ
-verdict_text (Accepted events) = codes "accepted " ++ decimal events
-verdict_text (Refused index rule) =
-    codes "refused event " ++ decimal index ++ codes ": K" ++ decimal rule
-verdict_text (Malformed line reason) =
-    codes "malformed line " ++ decimal line ++ codes ": F" ++ decimal (number_of_reason reason)
-verdict_text ReadFault = codes "read fault"
-verdict_text LimitEvents = codes "limit events"
-verdict_text LimitLines = codes "limit lines"
-verdict_text NoMemory = codes "out of memory"
 
 abbrev pub open_text : OpenErr → List ℕ
 open_text NotThere = codes "No such file or directory"

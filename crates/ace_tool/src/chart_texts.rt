@@ -10,12 +10,11 @@ ghost use Rattle.ace_tool.specs.ChartTexts.{chart_help, expected_below, expected
 use crate::explain::{give_five, told_name};
 use crate::line::shown_name;
 use crate::packing::{Packing, advice_of};
-use crate::report::verdict_text;
 use crate::result_parts::wrong_sentence;
 use ace_chart::{Below, Chart, chart_text};
 use ace_clauses::{ClauseName, Letter};
 use ace_expected::{Expectation, expected_text, got_text};
-use ace_explanation::{Explanation, Refusal};
+use ace_explanation::{Explanation, Refusal, verdict_text};
 use ace_io::{Failed, NoMemory, Sink};
 use ace_malformed::push;
 use ace_pages::page_name;

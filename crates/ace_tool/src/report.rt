@@ -1,6 +1,7 @@
 // What is told of a trace.
 ghost use Rattle.std.specs.Prelude.{◌≡◌, ◌≢◌, ◌≤◌, length};
-ghost use Rattle.ace_tool.specs.Reports.{open_text, status_of, status_of_fault, status_of_verdict, verdict_text};
+ghost use Rattle.ace_tool.specs.Reports.{open_text, status_of, status_of_fault, status_of_verdict};
+ghost use Rattle.ace_explanation.specs.Texts.{verdict_text};
 
 use crate::folder::OpenErr;
 use crate::gap::Gap;
@@ -8,7 +9,6 @@ use crate::packing::Packing;
 use crate::side::SideFault;
 use ace_verdict::Verdict;
 use arrayvec::ArrayString;
-use itoa::Buffer;
 
 /// An accepted trace.
 #[derive(Clone, Copy)]
@@ -71,34 +71,12 @@ pub(crate) fn status_of(report: &Report) -> u8
     }
 }
 
-/// The text of a verdict, as `ace check` says it.
+/// The text of a verdict, as `ace check` says it, with room behind it.
 pub(crate) fn verdict_text(verdict: Verdict) -> ArrayString<384>
     ensures { result.bytes ≡ verdict_text verdict }
 {
     let mut text = ArrayString::new();
-    let mut digits = Buffer::new();
-    match verdict {
-        Verdict::Accepted { events } => {
-            text.push_str("accepted ");
-            text.push_str(digits.format(events));
-        }
-        Verdict::Refused { index, rule } => {
-            text.push_str("refused event ");
-            text.push_str(digits.format(index));
-            text.push_str(": K");
-            text.push_str(digits.format(rule));
-        }
-        Verdict::Malformed { line, reason } => {
-            text.push_str("malformed line ");
-            text.push_str(digits.format(line));
-            text.push_str(": F");
-            text.push_str(digits.format(reason.number()));
-        }
-        Verdict::ReadFault => text.push_str("read fault"),
-        Verdict::LimitEvents => text.push_str("limit events"),
-        Verdict::LimitLines => text.push_str("limit lines"),
-        Verdict::NoMemory => text.push_str("out of memory"),
-    }
+    text.push_str(ace_explanation::verdict_text(verdict).as_str());
     text
 }
 
