@@ -95,6 +95,17 @@ impl AcePort {
         }
     }
 
+    /// The port has asked for what its next operation needs, so that this waits. That is one look,
+    /// which goes before all others.
+    #[inline(always)]
+    fn has_asked(&self, op: Op) -> bool
+        ensures { IsTrue result → (plan : Plan) (past : Trace) → AcePortStands self.now plan past
+            → next_operation plan past self.now.port ≡ Some op
+            → moves_of plan.ways plan.header past self.now.port op ≡ [] }
+    {
+        self.kept.segment.acts() != 0
+    }
+
     /// Goes on, where no burst of write data is unsent: issues a DVM Complete that the port owes,
     /// else ends its next operation, or asks for what that needs.
     pub fn go_on(&mut self, out: &mut Burst) -> bool
@@ -115,7 +126,7 @@ impl AcePort {
         let Some(op) = self.next() else {
             return false;
         };
-        if self.cannot_ask(op) || self.kept.is_waiting(op) {
+        if self.has_asked(op) || self.cannot_ask(op) || self.kept.is_waiting(op) {
             return false;
         }
         self.end(op, out) || self.ask(op, out)

@@ -1,6 +1,6 @@
 -- The R of a part of a DVM message, or of a DVM Complete, that may have it is a step 12, and the trace with it is one for which an engine may
 -- stand. Where no outstanding read of the port is such a one, there is no such step.
-use Rattle.std.proofs.Common.{◌≡◌, ℕ, Bool, true, false, ◌&&◌, ◌==◌, if◌then◌else◌, [], ◌∷◌, Some, is_none, slice_get, refl, sym, ap, subst, ◌∙◌, inl, inr}
+use Rattle.std.proofs.Common.{◌≡◌, ℕ, true, false, ◌&&◌, ◌==◌, if◌then◌else◌, [], ◌∷◌, Some, is_none, slice_get, refl, sym, ap, subst, ◌∙◌, inl, inr}
 use Rattle.std.proofs.lemmas.Bool.{and_from, cases_Bool, eq-eqb, false_from_ne_true, or_cases}
 use Rattle.ace_codes.specs.declared.kind.ArKind.{ArKind}
 use Rattle.ace_codes.specs.declared.kind.ArKind.TheVariants as read
@@ -58,10 +58,10 @@ module _ (h : Header) (past : Trace) (a : IsAccepted h past) (p : ℕ) (x : Tran
   pub dvm-is-plain : is_dvm x ≡ true → IsPlain h past x
   dvm-is-plain dvm = let k = dvm-kind x dvm in record { accepted = a; issued = w.issued; out = w.is_out; kind = k.0; kind_is = k.1; plain = k.2 }
 
-  begins-as : is_dvm x ≡ true → may_begin h past (dvm_burst h past x) ≡ is_kept h past (plain_transfer x)
+  pub begins-as : is_dvm x ≡ true → may_begin h past (dvm_burst h past x) ≡ is_kept h past (plain_transfer x)
   begins-as dvm = ap (λ b. may_begin h past (if b then plain_transfer x ∷ [] else [])) dvm
 
-  done-as : is_dvm x ≡ true → is_complete past x.port x.chan x.id ≡ is_completed past x
+  pub done-as : is_dvm x ≡ true → is_complete past x.port x.chan x.id ≡ is_completed past x
   done-as dvm =
       let out : outstanding h past x.port x.chan x.id ≡ Some x = subst (λ c. outstanding h past x.port c x.id ≡ Some x) (sym w.chan) (named-out h past x (dvm-is-plain dvm)) in
       complete_by_name past x.port x.chan x.id x (outstanding-named h past x.port x.chan x.id x out)

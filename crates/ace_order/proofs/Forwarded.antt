@@ -90,11 +90,11 @@ same-below h past m (suc n) r low =
       | inl next ↦ rw next (same-with n r (parts_of m) (onto (given_below h past m n) past) past apart before)
     ])
 
+-- what comes next goes by the parts for the port and those that were forwarded
+pub message-by : (t past : Trace) (r : ℕ) → parts_for t r ≡ parts_for past r → parts_among (forwarded t r) ≡ parts_among (forwarded past r) → next_message t r ≡ next_message past r
+message-by t past r parts done =
+    ap (λ l. message_with (slice_get (parts_for t r) (length l)) (slice_get (parts_for t r) (length l + 1))) done
+    ∙ ap (λ l. message_with (slice_get l (length (parts_among (forwarded past r)))) (slice_get l (length (parts_among (forwarded past r)) + 1))) parts
+
 pub same-next : (h : Header) (t past : Trace) (m : Message) (r : ℕ) → IsSame t past r → is_next_for h t m r ≡ is_next_for h past m r
-same-next h t past m r s =
-    let parts = s.parts in
-    let done = s.done in
-    let same : next_message t r ≡ next_message past r =
-    ap (λ l. message_with (slice_get (parts_for t r) (length (parts_among l))) (slice_get (parts_for t r) (length (parts_among l) + 1))) done
-    ∙ ap (λ l. message_with (slice_get l (length (parts_among (forwarded past r)))) (slice_get l (length (parts_among (forwarded past r)) + 1))) parts in
-    ap (λ o. is_some_and (if is_ace h r then o else None) (λ n. n.first.place == m.first.place)) same
+same-next h t past m r s = ap (λ o. is_some_and (if is_ace h r then o else None) (λ n. n.first.place == m.first.place)) (message-by t past r s.parts (ap parts_among s.done))

@@ -34,3 +34,9 @@ pub mod FewParts
 pub mod ForwardSteps
 -- The first part of a message that is the next for some port is outstanding.
 pub mod StillOut
+-- A part of a DVM message and a DVM Complete have an ARSNOOP above 13.
+pub mod DvmCodes
+-- What comes next for a port stays until a part of a message is issued or one is forwarded to it.
+pub mod NextSenders
+-- While the R of a part has to wait, that of each later part of its port has to.
+pub mod AnsweredInOrder

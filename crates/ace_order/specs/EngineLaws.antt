@@ -25,6 +25,7 @@ grows s plan past o stands right other = record {
     lines = stands.current.lines;
     waiting = stands.current.waiting;
     quiet = stands.current.quiet;
+    senders = stands.current.senders;
   };
   answered = stands.answered;
   forwarded = stands.forwarded;

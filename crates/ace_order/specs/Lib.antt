@@ -4,4 +4,5 @@ pub mod EngineLaws
 pub mod Messages
 pub mod Order
 pub mod Quiet
+pub mod Senders
 pub mod Waiting

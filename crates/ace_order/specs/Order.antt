@@ -19,12 +19,13 @@ use Rattle.ace_sysck.specs.declared.inboxes.Message.{Message}
 use Rattle.ace_sysck.specs.Stands as sysck
 use Rattle.ace_order.specs.Messages.{IsForwardedWhole, next_for}
 use Rattle.ace_order.specs.Quiet.{has_dvm, is_quiet}
+use Rattle.ace_order.specs.Senders.{AreSenders}
 use Rattle.ace_order.specs.Waiting.{HasToWait, is_waiting}
 use Rattle.ace_order.specs.declared.order.Order.{Order}
 
 -- It keeps what there is of each port and of the system, and has room for all snoops and lines of a
--- plan. Each barrier that it takes to wait has to, and no DVM transaction is outstanding of a port
--- of which it takes none to be.
+-- plan. Each barrier that it takes to wait has to, no DVM transaction is outstanding of a port of
+-- which it takes none to be, and it knows which port sends the message that each port gets next.
 pub record IsCurrent (s : Order) (plan : Plan) (past : Trace) : Type 0 where
   pub legal : IsLegal plan past
   pub header : s.header ≡ plan.header
@@ -34,6 +35,7 @@ pub record IsCurrent (s : Order) (plan : Plan) (past : Trace) : Type 0 where
   pub lines : sysck.IsRoomy most_lines past s.system
   pub waiting : (p : ℕ) → is_waiting s.waiting p ≡ true → HasToWait past p
   pub quiet : (p : ℕ) → is_quiet s.quiet p ≡ true → has_dvm plan.header past p ≡ false
+  pub senders : AreSenders plan.header past s.senders
 
 -- The halves of a barrier pair are answered together.
 abbrev pub AreAnsweredTogether : Trace → Type 0

@@ -4,6 +4,7 @@
 mod events;
 mod order;
 mod quiet;
+mod senders;
 mod waiting;
 
 pub use order::Order;

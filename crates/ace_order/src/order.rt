@@ -22,10 +22,11 @@ ghost use Rattle.ace_order.specs.Messages.{forwards_to, is_next_for, next_for};
 ghost use Rattle.ace_order.specs.Order.{IsAnswerable, IsCurrent, IsForwardable, IsRespondable, IsTurn, OrderStands};
 
 use crate::events::{
-    forwarding, has_message_part, is_dvm, is_message_part, plain_transfer, response,
+    first_unanswered, forwarding, is_behind, is_dvm, is_message_part, plain_transfer, response,
     sync_completion,
 };
 use crate::quiet::QuietPorts;
+use crate::senders::NextSenders;
 use crate::waiting::Waiting;
 use ace_codes::SnoopKind;
 use ace_engine::{Burst, Engine};
@@ -42,7 +43,8 @@ use std::alloc::Global;
 /// it is the next; it responds to a part of a message once every port has answered it, and to a DVM
 /// Complete; and it completes a Sync once every port has sent its DVM Complete. A barrier that was
 /// found to have to wait isn't asked for again before an event comes that may end the wait, and a
-/// port isn't asked for its messages as long as no DVM transaction of it is outstanding.
+/// port isn't asked for its messages as long as no DVM transaction of it is outstanding, or for
+/// which it forwards as long as it sends none that some port gets next.
 #[derive(Drop)]
 pub struct Order {
     header: Header,
@@ -50,6 +52,7 @@ pub struct Order {
     system: SysCheck,
     waiting: Waiting,
     quiet: QuietPorts,
+    senders: NextSenders,
 }
 
 impl Order {
@@ -76,6 +79,7 @@ impl Order {
             system,
             waiting: Waiting::none(),
             quiet: QuietPorts::all(),
+            senders: NextSenders::none(),
         })
     }
 
@@ -88,6 +92,7 @@ impl Order {
         self.ports.hear(event);
         self.waiting.hear(event, &self.ports, &self.system);
         self.quiet.hear(event, &self.ports);
+        self.senders.hear(event, &self.header, &self.system);
     }
 
     /// Hears the event, and puts it in the burst, if that isn't full.
@@ -197,7 +202,7 @@ impl Order {
         }
     }
 
-    /// A message of the port that is the next for some port: then a part of it is outstanding.
+    /// A message of the port that is the next for some port.
     fn forwardable(&self, port: u8) -> Option<Message>
         ensures some { (m : Message) → result ≡ Some m → (plan : Plan) (past : Trace)
             → OrderStands self.now plan past → IsForwardable plan.header past port m }
@@ -207,7 +212,7 @@ impl Order {
         if self.quiet.has(port) {
             return None;
         }
-        if !has_message_part(self.ports.reads(port)) {
+        if !self.senders.has(port) {
             return None;
         }
         for q in 0..self.header.ports {
@@ -259,7 +264,8 @@ impl Order {
         is_dvm(read) && !x.complete && self.lets_respond(read)
     }
 
-    /// The first part of a message or DVM Complete of the port that may have its R.
+    /// The first part of a message or DVM Complete of the port that may have its R. Each port
+    /// answers the parts of one sender in order, so of those only the first without R is asked.
     fn respondable(&self, port: u8) -> Option<Transaction>
         ensures some { (x : Transaction) → result ≡ Some x → (plan : Plan) (past : Trace)
             → OrderStands self.now plan past → IsRespondable plan.header past port x }
@@ -270,10 +276,13 @@ impl Order {
             return None;
         }
         let reads = self.ports.reads(port);
+        let mut unanswered = None;
         for i in 0..reads.len() {
-            if self.may_respond(&reads[i]) {
-                return Some(reads[i].transaction);
+            let read = &reads[i];
+            if !is_behind(read, unanswered) && self.may_respond(read) {
+                return Some(read.transaction);
             }
+            unanswered = first_unanswered(unanswered, read);
         }
         None
     }

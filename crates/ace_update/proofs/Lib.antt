@@ -10,3 +10,5 @@ pub mod DueWrites
 pub mod Rooms
 -- The burst of a write that may have it is a step.
 pub mod UpdateSteps
+-- Neither a memory update nor an Evict has an AWSNOOP below 2.
+pub mod LowCodes

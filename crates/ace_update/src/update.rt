@@ -5,7 +5,7 @@ ghost use Rattle.ace_event.specs.declared.event.Event.{Event};
 ghost use Rattle.ace_event.specs.declared.event.Channel.TheVariants.{Write};
 ghost use Rattle.ace_model.specs.declared.transactions.Transaction.{Transaction};
 ghost use Rattle.ace_model.specs.Plans.{IsRight, Plan};
-ghost use Rattle.ace_model.specs.Progress.{updates_memory};
+ghost use Rattle.ace_model.specs.Progress.{evicts, updates_memory};
 ghost use Rattle.ace_model.specs.Trace.{Trace};
 ghost use Rattle.ace_runs.specs.Bursts.{may_begin, may_serve, onto};
 ghost use Rattle.ace_runs.specs.LineSteps.{update_burst};
@@ -30,6 +30,16 @@ use std::alloc::Global;
 pub struct Update {
     ports: PortCheck,
     passed: PassedLines,
+}
+
+/// The write has the AWSNOOP of a write past the cache, or of the half of a barrier. Neither a memory
+/// update nor an Evict has it, so of most writes that wait this is all that is looked at.
+#[inline(always)]
+fn goes_past_the_cache(write: &Transaction) -> bool
+    ensures updates { result ≡ true → updates_memory write.now ≡ false }
+    ensures evicts { result ≡ true → evicts write.now ≡ false }
+{
+    write.snoop < 2
 }
 
 impl Update {
@@ -71,6 +81,9 @@ impl Update {
     {
         let write = &x.transaction;
         if x.granted {
+            return false;
+        }
+        if goes_past_the_cache(write) {
             return false;
         }
         if updates_memory(write) {

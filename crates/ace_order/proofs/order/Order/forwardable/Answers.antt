@@ -1,17 +1,17 @@
-use Rattle.std.proofs.Common.{◌≡◌, ℕ, true, false, Some, None, option_map, sym, ap, ◌∙◌, inl, inr, arith}
+use Rattle.std.proofs.Common.{◌≡◌, ◌<◌, ℕ, true, false, Some, None, option_map, sym, ap, ◌∙◌, inl, inr, arith}
 use Rattle.std.specs.List.{list_any}
 use Rattle.std.proofs.lemmas.Bool.{cases_eq}
 use Rattle.ace_event.specs.declared.header.Header.{Header}
 use Rattle.ace_event.specs.declared.event.Channel.TheVariants.{Read}
 use Rattle.ace_model.specs.Messages.{is_message_part}
 use Rattle.ace_model.proofs.General.Options.{Some-injective}
-use Rattle.ace_portck.specs.declared.target.Progress.{Progress}
+use Rattle.ace_runs.proofs.Range.FewPorts.{few-ports}
 use Rattle.ace_portck.specs.Pending.{pending_of}
 use Rattle.ace_sysck.specs.declared.inboxes.Message.{Message}
 use Rattle.ace_order.specs.Messages.{next_for}
 use Rattle.ace_order.proofs.ForwardSteps.{none-forwards}
 use Rattle.ace_order.proofs.NextMessages.{gets}
-use Rattle.ace_order.proofs.StillOut.{any-told, next-pending}
+use Rattle.ace_order.proofs.StillOut.{next-pending}
 use Rattle.ace_order.proofs.WithoutDvm.{no-message}
 use Rattle.ace_order.proofs.order.Order.forwardable.Goals as goal
 use Rattle.ace_order.proofs.order.Order.forwardable.Goals.{in-Some+else-sender-port, in_default}
@@ -25,14 +25,14 @@ returns-then-has-clause-none c = λ _ plan past s.
     let out = next-pending h past r n (gets h past r n (s.forwarded r) next) s.current.legal.accepted in
     let bad : true ≡ false = sym out ∙ ap (λ q. list_any is_message_part (pending_of h past q Read)) own ∙ no-message h past p none in cc)
 
-pub returns-then-not-has_message_part-clause-none : goal.returns-then-not-has_message_part-clause-none
-returns-then-not-has_message_part-clause-none c = λ _ plan past s.
+pub returns-then-not-has-clause-none : goal.returns-then-not-has-clause-none
+returns-then-not-has-clause-none c = λ _ plan past s.
     let h = plan.header in
+    let legal = s.current.legal in
     none-forwards h past c.args.port s.forwarded (λ r n low next own.
-    let out = next-pending h past r n (gets h past r n (s.forwarded r) next) s.current.legal.accepted in
-    let list = c.reads.ensures (record { header = h; past = past }) s.current.ports in
-    let none = sym (c.has_message_part.ensures ∙ ap (list_any (λ (x : Progress). is_message_part x.transaction)) list ∙ any-told h past (pending_of h past c.args.port Read)) ∙ c.if-not-has_message_part.true in
-    let bad : true ≡ false = sym out ∙ ap (λ p. list_any is_message_part (pending_of h past p Read)) own ∙ none in cc)
+    let most = few-ports h legal.right.header legal.right.version in
+    let few : r < 16 = omega (arith, most, low) in
+    c.has-2.ensures c.if-not-has.true r few (s.current.senders r n few next ∙ own))
 
 pub returns-clause-none : goal.returns-clause-none
 returns-clause-none c = λ _ plan past s.

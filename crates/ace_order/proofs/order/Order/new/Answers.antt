@@ -3,6 +3,7 @@ use Rattle.ace_event.specs.declared.header.Header.{Header}
 use Rattle.ace_event.specs.Ports.{IsHeader}
 use Rattle.ace_portck.specs.Stands as portck
 use Rattle.ace_sysck.specs.Stands as sysck
+use Rattle.ace_order.proofs.NextSenders.{none-at-first}
 use Rattle.ace_order.proofs.order.Order.new.Goals as goal
 
 pub returns : goal.returns
@@ -19,6 +20,7 @@ returns c =
         lines = c.in-Ok-with_room.ensures.room;
         waiting = λ p now. let bad : false ≡ true = sym (c.none.ensures p) ∙ now in cc;
         quiet = λ p now. refl;
+        senders = λ q m low next. none-at-first c.args.plan.now.plan.header q m next;
       };
       answered = λ p k b there. cc;
       forwarded = λ q. ([], [], refl, refl);

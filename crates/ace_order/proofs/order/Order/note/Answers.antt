@@ -1,5 +1,9 @@
+use Rattle.std.proofs.Common.{◌∷◌, subst, sym}
+use Rattle.ace_event.specs.declared.header.Header.{Header}
 use Rattle.ace_portck.specs.Targets.{Recording}
 use Rattle.ace_engine.proofs.Rooms.{few-events-there, few-lines-known, room-for-event}
+use Rattle.ace_sysck.specs.Stands as sysck
+use Rattle.ace_order.specs.Senders.{AreSenders}
 use Rattle.ace_order.proofs.order.Order.note.Goals as goal
 
 pub returns : goal.returns
@@ -24,4 +28,7 @@ returns c = λ plan past s legal.
       lines = heard.room;
       waiting = c.hear-3.ensures plan.header past ports heard.stands s.waiting;
       quiet = c.hear-4.ensures plan.header past legal.accepted ports s.quiet;
+      senders = subst (λ (h : Header). AreSenders h (e ∷ past) c.hear-5.new.self) s.header
+          (c.hear-5.ensures past (subst (λ (h : Header). sysck.Stands c.hear.new.self (record { header = h; past = e ∷ past })) (sym s.header) heard.stands)
+          (subst (λ (h : Header). AreSenders h past c.args.self.now.senders) (sym s.header) s.senders));
     }

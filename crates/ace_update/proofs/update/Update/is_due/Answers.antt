@@ -22,6 +22,16 @@ returns-then-x c = λ plan past p k y s there is.
     let had : has_grant past y.port y.chan y.id ≡ true = ap (λ (v : Progress). v.granted) (sym is) ∙ c.if-x.true in
     sym (granted-begins h past s.legal.accepted p y (write-at h past p k y there) had)
 
+pub returns-then-goes_past_the_cache : goal.returns-then-goes_past_the_cache
+returns-then-goes_past_the_cache c = λ plan past p k y s there is.
+    let h = plan.header in
+    let x = c.args.x.now in
+    let same = told plan past x y is in
+    let low = c.if-goes_past_the_cache.true in
+    let f : updates_memory y ≡ false = ap updates_memory (sym same) ∙ c.goes_past_the_cache.ensures.updates low in
+    let e : evicts y ≡ false = ap evicts (sym same) ∙ c.goes_past_the_cache.ensures.evicts low in
+    sym (none-begins h past y f e)
+
 pub returns-then-is_some : goal.returns-then-is_some
 returns-then-is_some c = λ plan past p k y s there is.
     let h = plan.header in
