@@ -39,6 +39,20 @@ __attribute__((weak)) int statx(int folder, const char *path, int flags, unsigne
     return (int)syscall(332L, (long)folder, path, (long)flags, (unsigned long)wanted, into);
 }
 
+/* What a division of numbers of 128 bits is compiled to, which the kit's linker has of its own: bit by bit, as programs divide few. */
+__attribute__((weak)) unsigned __int128 __udivti3(unsigned __int128 number, unsigned __int128 by) {
+    unsigned __int128 quotient = 0, rest = 0;
+    for (int bit = 127; bit >= 0; bit--) {
+        const int carry = rest >> 127 != 0;
+        rest = rest << 1 | (number >> bit & 1);
+        if (carry || rest >= by) {
+            rest -= by;
+            quotient |= (unsigned __int128)1 << bit;
+        }
+    }
+    return quotient;
+}
+
 /* The name by which it writes that the processor is too old. */
 long __write(int file, const void *bytes, unsigned long count) {
     return write(file, bytes, count);
