@@ -15,10 +15,10 @@ _acetool() {
     if ((COMP_CWORD > first)); then
         case ${COMP_WORDS[first]} in
         check) words='--most-events --most-lines --side --no-side --require-end --allow-cut --drained --help' ;;
-        batch) words='--merge --list --jobs --shard --failed --junit --json --most-events --most-lines --no-side --require-end --allow-cut --drained --help' ;;
-        cover) words='--all --json --min --help' ;;
-        explain) words='--short --json --help' ;;
-        chart) words='-o --line --events --around --port --rows --title --help' ;;
+        batch) words='--merge --list --jobs --shard --failed --fail-fast --junit --json --most-events --most-lines --no-side --require-end --allow-cut --drained --help' ;;
+        cover) words='--list --merge --all --hits --json --min --help' ;;
+        explain) words='--short --json --most-events --most-lines --side --no-side --require-end --allow-cut --drained --help' ;;
+        chart) words='-o --line --events --around --port --rows --title --side --no-side --help' ;;
         gen) words='--cover --help' ;;
         rule) words="--help $(printf 'K%d ' {1..40})" ;;
         *) words= ;;

@@ -1,5 +1,5 @@
 -- The results of many traces as JSON, an object a line.
-use Rattle.std.specs.Prelude.{ℕ, ◌++◌, List, Option, Some, None, codes, decimal, flat_map, length, string_bytes}
+use Rattle.std.specs.Prelude.{ℕ, ◌++◌, ◌==◌, if◌then◌else◌, List, [], Option, Some, None, codes, decimal, flat_map, length, string_bytes}
 use Rattle.ace_batch.specs.Escapes.{json_text}
 use Rattle.ace_batch.specs.Outcomes.{verdict_of}
 use Rattle.ace_batch.specs.declared.entry.Entry.{Entry}
@@ -64,12 +64,20 @@ count_json count = traces_name ++ (decimal count ++ codes "}\n")
 unfoldable pub head_json : ℕ → ℕ → ℕ → List ℕ
 head_json part parts count = part_json part parts ++ count_json count
 
--- the last one: that these were all
+-- how many traces of the part were not looked at, where there are any
+unfoldable pub left_json : ℕ → List ℕ
+left_json left =
+    if left == 0 then [] else codes "{\"left\":" ++ (decimal left ++ codes "}\n")
+
+-- the last one: that these were all that were
 unfoldable pub end_json : ℕ → List ℕ
 end_json count = codes "{\"end\":" ++ (decimal count ++ codes "}\n")
 
--- the whole text
-unfoldable pub results_json : ℕ → ℕ → List Entry → List ℕ
-results_json part parts entries =
+unfoldable pub tail_json : ℕ → ℕ → List ℕ
+tail_json left count = left_json left ++ end_json count
+
+-- the whole text, of the traces that were looked at and of so many that were not
+unfoldable pub results_json : ℕ → ℕ → ℕ → List Entry → List ℕ
+results_json part parts left entries =
     head_json part parts (length entries)
-    ++ (flat_map entry_json entries ++ end_json (length entries))
+    ++ (flat_map entry_json entries ++ tail_json left (length entries))

@@ -4,6 +4,7 @@ pub mod GroupViews
 pub mod Groups
 pub mod Json
 pub mod Junit
+pub mod Looked
 pub mod Outcomes
 pub mod Rows
 pub mod Shards

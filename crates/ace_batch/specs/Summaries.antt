@@ -97,14 +97,24 @@ open_end count =
 unfoldable pub open_text : ℕ → List ℕ
 open_text count = if count == 0 then [] else codes "\n" ++ (decimal count ++ open_end count)
 
+-- how many traces were not looked at, where some were not
+unfoldable pub left_end : ℕ → List ℕ
+left_end left =
+    if left == 1 then codes " trace was not looked at\n" else codes " traces were not looked at\n"
+
+unfoldable pub left_text : ℕ → List ℕ
+left_text left = if left == 0 then [] else decimal left ++ left_end left
+
 -- the groups, and how many are so
 unfoldable pub findings_text : List Entry → List ℕ
 findings_text entries = groups_text (groups_of entries) ++ open_text (open_count entries)
 
--- the summary, with an empty line before it
-unfoldable pub summary_text : List Entry → List ℕ
-summary_text entries = codes "\n" ++ (counts_line entries ++ findings_text entries)
+-- the summary of the traces that were looked at, with an empty line before it, where so many were
+-- not
+unfoldable pub summary_text : ℕ → List Entry → List ℕ
+summary_text left entries =
+    codes "\n" ++ (counts_line entries ++ (left_text left ++ findings_text entries))
 
 -- what is told of the traces: their lines, and the summary
-unfoldable pub told_text : Bool → List Entry → List ℕ
-told_text failed entries = rows_text failed entries ++ summary_text entries
+unfoldable pub told_text : Bool → ℕ → List Entry → List ℕ
+told_text failed left entries = rows_text failed entries ++ summary_text left entries

@@ -1,7 +1,7 @@
 // The results of many traces as JSON, an object a line.
 ghost use Rattle.std.specs.Prelude.{◌≡◌, ◌≤◌, ◌++◌, [], flat_map, if◌then◌else◌, length, OnOk};
 ghost use Rattle.ace_batch.specs.Shards.{is_in, part_of};
-ghost use Rattle.ace_batch.specs.Json.{count_json, end_json, entry_json, events_json, head_json, member_json, message_name, number_json, numbers_json, outstanding_name, part_json, results_json, signature_name, traces_name, which_json, why_json, words_json};
+ghost use Rattle.ace_batch.specs.Json.{count_json, end_json, entry_json, events_json, head_json, left_json, member_json, message_name, number_json, numbers_json, outstanding_name, part_json, results_json, signature_name, tail_json, traces_name, which_json, why_json, words_json};
 
 use crate::entry::Entry;
 use crate::escape::push_json;
@@ -216,6 +216,19 @@ fn push_head(text: &mut Vec<u8>, shard: &Shard, count: u64) -> Result<(), NoMemo
     push_count(text, count)
 }
 
+/// Adds how many traces were not looked at, if some were not.
+#[tactic(auto, unfolding(crate::specs::Json::left_json))]
+fn push_left(text: &mut Vec<u8>, left: u64) -> Result<(), NoMemory>
+    ensures { OnOk result (text.new.items ≡ text.old.items ++ left_json left) }
+{
+    if left == 0 {
+        return Ok(());
+    }
+    push(text, b"{\"left\":")?;
+    push_number(text, left)?;
+    push(text, b"}\n")
+}
+
 /// Adds the last line.
 #[tactic(auto, unfolding(crate::specs::Json::end_json))]
 fn push_end(text: &mut Vec<u8>, count: u64) -> Result<(), NoMemory>
@@ -226,24 +239,39 @@ fn push_end(text: &mut Vec<u8>, count: u64) -> Result<(), NoMemory>
     push(text, b"}\n")
 }
 
-/// Adds the results as JSON, an object a line: first which part of the list they are of and how
-/// many, then each trace, and last that these were all.
+/// Adds the lines behind those of the traces.
+#[tactic(auto, unfolding(crate::specs::Json::tail_json))]
+fn push_tail(text: &mut Vec<u8>, left: u64, count: u64) -> Result<(), NoMemory>
+    ensures { OnOk result (text.new.items ≡ text.old.items ++ tail_json left count) }
+{
+    push_left(text, left)?;
+    push_end(text, count)
+}
+
+/// Adds the results of the traces that were looked at as JSON, an object a line: first which part
+/// of the list they are of and how many, then each trace, then how many of the part were not looked
+/// at, if some were not, and last that these were all.
 ///
 /// # Errors
 ///
 /// `NoMemory` where there is none for the longer text.
 #[tactic(auto, unfolding(crate::specs::Json::results_json))]
-pub fn push_results(text: &mut Vec<u8>, shard: &Shard, entries: &[Entry]) -> Result<(), NoMemory>
+pub fn push_results(
+    text: &mut Vec<u8>,
+    shard: &Shard,
+    left: usize,
+    entries: &[Entry],
+) -> Result<(), NoMemory>
     ensures { OnOk result (text.new.items ≡ text.old.items
-        ++ results_json shard.now.part shard.now.parts entries.now) }
+        ++ results_json shard.now.part shard.now.parts left entries.now) }
 {
     push_head(text, shard, entries.len() as u64)?;
     push_entries(text, entries)?;
-    push_end(text, entries.len() as u64)
+    push_tail(text, left as u64, entries.len() as u64)
 }
 
 /// Adds the results of those traces of a list that are in this part of it, as `push_results` adds
-/// those of the part alone.
+/// those of the part alone, where all of them were looked at.
 ///
 /// # Errors
 ///
@@ -255,10 +283,10 @@ pub fn push_part_results(
     entries: &[Entry],
 ) -> Result<(), NoMemory>
     ensures { OnOk result (text.new.items ≡ text.old.items ++ results_json shard.now.part
-        shard.now.parts (part_of shard.now.part shard.now.parts entries.now)) }
+        shard.now.parts 0 (part_of shard.now.part shard.now.parts entries.now)) }
 {
     let count = count_in(shard, entries) as u64;
     push_head(text, shard, count)?;
     push_entries_in(text, shard, entries)?;
-    push_end(text, count)
+    push_tail(text, 0, count)
 }

@@ -2,7 +2,7 @@
 ghost use Rattle.std.specs.Prelude.{◌≡◌, ◌++◌, decimal, flat_map, IfOk, OnOk};
 ghost use Rattle.ace_batch.specs.GroupViews.{view_of, views_of};
 ghost use Rattle.ace_batch.specs.Rows.{padded};
-ghost use Rattle.ace_batch.specs.Summaries.{beyond_words, count_part, counts_line, events_text, first_text, group_text, groups_text, heading_end, heading_text, hindered_text, open_end, open_text, outcomes_text, plural, findings_text, right_of, signature_text, summary_text, told_text, traces_text, unread_text, with_commas, wrong_text};
+ghost use Rattle.ace_batch.specs.Summaries.{beyond_words, count_part, counts_line, events_text, first_text, group_text, groups_text, heading_end, heading_text, hindered_text, open_end, open_text, outcomes_text, plural, findings_text, left_end, left_text, right_of, signature_text, summary_text, told_text, traces_text, unread_text, with_commas, wrong_text};
 
 use crate::counting::{count_of, events_of, open_count};
 use crate::entry::Entry;
@@ -258,6 +258,30 @@ fn push_open(text: &mut Vec<u8>, count: usize) -> Result<(), NoMemory>
     push(text, open_end(count))
 }
 
+/// What stands behind the number of traces that were not looked at.
+#[tactic(auto, unfolding(crate::specs::Summaries::left_end))]
+fn left_end(left: usize) -> &'static [u8]
+    ensures { result.now ≡ left_end left }
+{
+    if left == 1 {
+        b" trace was not looked at\n"
+    } else {
+        b" traces were not looked at\n"
+    }
+}
+
+/// Adds how many traces were not looked at, if some were not.
+#[tactic(auto, unfolding(crate::specs::Summaries::left_text))]
+fn push_left(text: &mut Vec<u8>, left: usize) -> Result<(), NoMemory>
+    ensures { OnOk result (text.new.items ≡ text.old.items ++ left_text left) }
+{
+    if left == 0 {
+        return Ok(());
+    }
+    push_number(text, left as u64)?;
+    push(text, left_end(left))
+}
+
 /// Adds the groups of traces that failed alike, and how many end with transactions outstanding.
 #[tactic(auto, unfolding(crate::specs::Summaries::findings_text))]
 fn push_findings(alloc: Global, text: &mut Vec<u8>, entries: &[Entry]) -> Result<(), NoMemory>
@@ -268,32 +292,44 @@ fn push_findings(alloc: Global, text: &mut Vec<u8>, entries: &[Entry]) -> Result
     push_open(text, open_count(entries))
 }
 
-/// Adds the summary of the traces, with an empty line before it.
+/// Adds the summary of the traces that were looked at, with an empty line before it, where so many
+/// were not.
 ///
 /// # Errors
 ///
 /// `NoMemory` where there is none for the longer text.
 #[tactic(auto, unfolding(crate::specs::Summaries::summary_text))]
-pub fn push_summary(alloc: Global, text: &mut Vec<u8>, entries: &[Entry]) -> Result<(), NoMemory>
-    ensures { OnOk result (text.new.items ≡ text.old.items ++ summary_text entries.now) }
+pub fn push_summary(
+    alloc: Global,
+    text: &mut Vec<u8>,
+    left: usize,
+    entries: &[Entry],
+) -> Result<(), NoMemory>
+    ensures { OnOk result (text.new.items ≡ text.old.items ++ summary_text left entries.now) }
 {
     push(text, b"\n")?;
     push_counts(text, entries)?;
+    push_left(text, left)?;
     push_findings(alloc, text, entries)
 }
 
-/// What is told of the traces: the line of each, or only of those that aren't accepted, and the
-/// summary.
+/// What is told of the traces that were looked at, where so many were not: the line of each, or
+/// only of those that aren't accepted, and the summary.
 ///
 /// # Errors
 ///
 /// `NoMemory` where there is none for the text.
 #[tactic(auto, unfolding(crate::specs::Summaries::told_text))]
-pub fn told_text(alloc: Global, failed: bool, entries: &[Entry]) -> Result<Vec<u8>, NoMemory>
-    ensures { IfOk result (λ text. text.items ≡ told_text failed entries.now) }
+pub fn told_text(
+    alloc: Global,
+    failed: bool,
+    left: usize,
+    entries: &[Entry],
+) -> Result<Vec<u8>, NoMemory>
+    ensures { IfOk result (λ text. text.items ≡ told_text failed left entries.now) }
 {
     let mut text = Vec::new(alloc);
     push_rows(&mut text, failed, entries)?;
-    push_summary(alloc, &mut text, entries)?;
+    push_summary(alloc, &mut text, left, entries)?;
     Ok(text)
 }

@@ -7,6 +7,8 @@ mod entries;
 #[cfg(test)]
 mod lists;
 #[cfg(test)]
+mod looked;
+#[cfg(test)]
 mod parts;
 #[cfg(test)]
 mod texts;

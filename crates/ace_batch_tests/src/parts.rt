@@ -22,13 +22,13 @@ fn part_of(alloc: Global, part: usize, parts: usize) -> Result<Vec<u8>, NoMemory
 /// What is told of all of them.
 fn told(alloc: Global) -> Result<Vec<u8>, NoMemory> {
     let entries = results(alloc, &PATHS)?;
-    told_text(alloc, false, entries.as_slice())
+    told_text(alloc, false, 0, entries.as_slice())
 }
 
 /// What is told of the results in two parts.
 fn told_of_two(alloc: Global, first: &[u8], second: &[u8]) -> Result<Vec<u8>, MergeErr> {
     let entries = merge(alloc, &[first, second])?;
-    match told_text(alloc, false, entries.as_slice()) {
+    match told_text(alloc, false, 0, entries.as_slice()) {
         Ok(text) => Ok(text),
         Err(NoMemory) => Err(MergeErr::NoMemory),
     }
@@ -99,6 +99,13 @@ fn other_texts_are_no_results(rt: HostRuntime) {
             alloc,
             "{\"format\":\"ace batch 1\",\"shard\":\"1/1\",\"traces\":1}\n{\"end\":1}\n",
             PartErr::Wrong { line: 2 }
+        )
+    );
+    assert!(rt;
+        is_none(
+            alloc,
+            "{\"format\":\"ace batch 1\",\"shard\":\"1/1\",\"traces\":0}\n{\"left\":37}\n{\"end\":0}\n",
+            PartErr::Left { count: 37 }
         )
     );
 }

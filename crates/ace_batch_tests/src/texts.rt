@@ -4,24 +4,32 @@ use ace_batch::{Entry, Shard, push_junit, push_results, status_of_all, told_text
 use ace_io::NoMemory;
 use std::alloc::Global;
 
-/// Paths, whether accepted ones have no lines, and what is told of them.
-type Row = (&'static [&'static str], bool, &'static str);
+/// Paths, whether accepted ones have no lines, how many others were not looked at, and what is told.
+type Row = (&'static [&'static str], bool, usize, &'static str);
 
-const TOLD: [Row; 6] = [
+const TOLD: [Row; 8] = [
     (
         &["good"],
         false,
+        0,
         "ok    good           accepted 123456\n\n1 trace: 1 accepted; 123,456 events\n",
     ),
-    (&["good"], true, "\n1 trace: 1 accepted; 123,456 events\n"),
+    (
+        &["good"],
+        true,
+        0,
+        "\n1 trace: 1 accepted; 123,456 events\n",
+    ),
     (
         &["open", "good"],
         true,
+        0,
         "\n2 traces: 2 accepted; 123,468 events\n\n1 accepted trace ends with transactions outstanding\n",
     ),
     (
         &["open", "none", "open"],
         true,
+        0,
         "ERROR none           No such file or directory
 
 3 traces: 2 accepted, 1 unreadable; 24 events
@@ -36,6 +44,7 @@ const TOLD: [Row; 6] = [
     (
         &["late", "good", "early", "nightly/bad", "none"],
         true,
+        0,
         "FAIL  late:72           K18c: a transfer too few
 FAIL  early:9           K18c: a transfer too many
 BAD   nightly/bad:3     F5: a field is wrong
@@ -53,8 +62,37 @@ ERROR none              No such file or directory
 ",
     ),
     (
+        &["good", "early"],
+        true,
+        1,
+        "FAIL  early:9        K18c: a transfer too many
+
+2 traces: 1 accepted, 1 refused; 123,463 events
+1 trace was not looked at
+
+1 distinct failure, most frequent first
+    1  K18c                         early:9
+       a transfer too many
+",
+    ),
+    (
+        &["none"],
+        false,
+        4999,
+        "ERROR none           No such file or directory
+
+1 trace: 0 accepted, 1 unreadable; 0 events
+4999 traces were not looked at
+
+1 distinct failure, most frequent first
+    1  cannot be opened             none
+       No such file or directory
+",
+    ),
+    (
         &["cut", "long", "full"],
         false,
+        0,
         "CUT   cut            unfinished: no END
 LIMIT long           limit events
 ERROR full           out of memory
@@ -77,8 +115,8 @@ fn is_told(alloc: Global, row: &Row) -> bool {
     let Ok(entries) = results(alloc, row.0) else {
         return false;
     };
-    match told_text(alloc, row.1, entries.as_slice()) {
-        Ok(text) => text.as_slice() == row.2.as_bytes(),
+    match told_text(alloc, row.1, row.2, entries.as_slice()) {
+        Ok(text) => text.as_slice() == row.3.as_bytes(),
         Err(NoMemory) => false,
     }
 }
@@ -144,7 +182,7 @@ fn junit_of(alloc: Global, entries: &[Entry]) -> Result<Vec<u8>, NoMemory> {
 /// The same as JSON.
 fn json_of(alloc: Global, entries: &[Entry]) -> Result<Vec<u8>, NoMemory> {
     let mut text = Vec::new(alloc);
-    push_results(&mut text, &Shard::whole(), entries)?;
+    push_results(&mut text, &Shard::whole(), 0, entries)?;
     Ok(text)
 }
 

@@ -1,5 +1,5 @@
 -- The rows that tell of a line: of its ports, of memory, and of its grant.
-use Rattle.std.specs.Prelude.{ℕ, ◌+◌, ◌++◌, ◌&&◌, ◌||◌, ◌==◌, not, nat_lt, Bool, true, false, if◌then◌else◌, List, [], ◌∷◌, Option, Some, None, codes, decimal, is_none, is_some}
+use Rattle.std.specs.Prelude.{ℕ, ◌+◌, ◌-◌, ◌++◌, ◌&&◌, ◌||◌, ◌==◌, not, length, max, replicate, take, Bool, true, false, if◌then◌else◌, List, [], ◌∷◌, Option, Some, None, codes, decimal, is_none, is_some}
 use Rattle.std.specs.List.{count_by, list_all, list_any}
 use Rattle.ace_before.specs.Words.{called, short_line, since_part, snoop_words, written_part}
 use Rattle.ace_before.specs.declared.before.LineBefore.{LineBefore}
@@ -16,6 +16,8 @@ use Rattle.ace_model.specs.Kinds.{beats_of}
 use Rattle.ace_model.specs.Trace.{is_some_and}
 use Rattle.ace_model.specs.Transactions.{is_ace, is_read, read_kind, snoop_of}
 use Rattle.ace_portck.specs.declared.target.Progress.{Progress}
+use Rattle.ace_side_facts.specs.Facts.{name_in}
+use Rattle.ace_side_facts.specs.declared.facts.SideFacts.{SideFacts}
 use Rattle.ace_tables.specs.States.{is_dirty, is_invalid}
 
 -- the port wasn't snooped
@@ -51,21 +53,32 @@ unfoldable pub own_part : Option Progress → List ℕ
 own_part None = []
 own_part (Some x) = outstanding_words ++ called x.transaction
 
-unfoldable pub port_name : ℕ → List ℕ
-port_name p =
-    codes "    port " ++ decimal p ++ (if nat_lt p 10 then codes "       " else codes "      ")
+-- what a port is called: its number, and its name if it has one
+abbrev pub name_part : Option (List ℕ) → List ℕ
+name_part None = []
+name_part (Some name) = codes " " ++ name
+
+unfoldable pub port_label : SideFacts → ℕ → List ℕ
+port_label f p = codes "port " ++ decimal p ++ name_part (name_in f p)
+
+-- the same as the head of a row, at the left of thirteen columns, or before two spaces
+unfoldable pub head_of : List ℕ → List ℕ
+head_of label = codes "    " ++ label ++ take (max 2 (13 - length label)) (replicate 13 32)
+
+unfoldable pub port_name : SideFacts → ℕ → List ℕ
+port_name f p = head_of (port_label f p)
 
 -- the row of a port; none of one that is idle
-unfoldable pub port_row : Header → ℕ → PortBefore → List ℕ
-port_row h p x =
+unfoldable pub port_row : SideFacts → Header → ℕ → PortBefore → List ℕ
+port_row f h p x =
     if is_idle x then []
-    else port_name p ++ state_part (is_ace h p) x ++ own_part x.own ++ snoop_words x.snoop
+    else port_name f p ++ state_part (is_ace h p) x ++ own_part x.own ++ snoop_words x.snoop
     ++ codes "\n"
 
 -- of the ports from one on
-unfoldable pub port_rows : Header → ℕ → List PortBefore → List ℕ
-port_rows h p [] = []
-port_rows h p (x ∷ ports) = port_row h p x ++ port_rows h (p + 1) ports
+unfoldable pub port_rows : SideFacts → Header → ℕ → List PortBefore → List ℕ
+port_rows f h p [] = []
+port_rows f h p (x ∷ ports) = port_row f h p x ++ port_rows f h (p + 1) ports
 
 -- ---- memory
 

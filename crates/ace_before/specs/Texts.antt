@@ -6,6 +6,7 @@ use Rattle.ace_before.specs.declared.before.LineBefore.{LineBefore}
 use Rattle.ace_event.specs.Text.{hex_text}
 use Rattle.ace_event.specs.declared.header.Header.{Header}
 use Rattle.ace_event.specs.declared.line.Line.{Line}
+use Rattle.ace_side_facts.specs.declared.facts.SideFacts.{SideFacts}
 
 abbrev pub is_zero : Line → Bool
 is_zero line = list_all (λ (word : ℕ). word == 0) line.words
@@ -34,10 +35,11 @@ untouched_line index line =
 unfoldable pub head_line : ℕ → ℕ → List ℕ
 head_line index line = before_words index ++ codes ", line " ++ hex_text 8 line ++ codes "\n"
 
-unfoldable pub rows : Header → LineBefore → List ℕ
-rows h b = port_rows h 0 b.ports ++ memory_row b ++ passed_row b.passed ++ grant_row b
+unfoldable pub rows : SideFacts → Header → LineBefore → List ℕ
+rows f h b = port_rows f h 0 b.ports ++ memory_row b ++ passed_row b.passed ++ grant_row b
 
 -- what is told of the line before the event of this number
-unfoldable pub line_text : ℕ → Header → LineBefore → List ℕ
-line_text index h b =
-    if is_untouched b then untouched_line index b.line else head_line index b.line ++ rows h b
+-- with the names of ports that are known
+unfoldable pub line_text : SideFacts → ℕ → Header → LineBefore → List ℕ
+line_text f index h b =
+    if is_untouched b then untouched_line index b.line else head_line index b.line ++ rows f h b

@@ -1,6 +1,6 @@
 // The rows of the ports.
 ghost use Rattle.std.specs.Prelude.{◌≡◌, ◌+◌, ◌≤◌, ◌++◌, OnOk, length};
-ghost use Rattle.ace_before.specs.Rows.{copy_part, is_idle, is_unsnooped, outstanding_words, own_part, port_name, port_row, port_rows, state_part};
+ghost use Rattle.ace_before.specs.Rows.{copy_part, is_idle, is_unsnooped, outstanding_words, own_part, head_of, port_label, port_name, port_row, port_rows, state_part};
 
 use crate::before::{PortBefore, SnoopBefore};
 use crate::words::{push_called, push_short_line, push_since, snoop_words};
@@ -10,8 +10,13 @@ use ace_io::NoMemory;
 use ace_malformed::{push, push_number};
 use ace_model::kinds::is_ace;
 use ace_portck::Progress;
+use ace_side_facts::SideFacts;
 use ace_tables::is_invalid;
 use ace_words::state_word;
+use std::alloc::Global;
+
+/// How wide the heads of rows are.
+const COLUMNS: usize = 13;
 
 /// The port wasn't snooped.
 pub(crate) fn is_unsnooped(snoop: SnoopBefore) -> bool
@@ -75,29 +80,60 @@ fn push_own(text: &mut Vec<u8>, own: &Option<Progress>) -> Result<(), NoMemory>
     }
 }
 
-/// Adds the name of a port, and what stands between it and its row.
-#[tactic(auto, unfolding(crate::specs::Rows::port_name))]
-fn push_name(text: &mut Vec<u8>, port: u8) -> Result<(), NoMemory>
-    ensures { OnOk result (text.new.items ≡ text.old.items ++ port_name port) }
+/// Adds what a port is called: its number, and its name if it has one.
+#[tactic(auto, unfolding(crate::specs::Rows::port_label))]
+fn push_label(text: &mut Vec<u8>, facts: &SideFacts, port: u8) -> Result<(), NoMemory>
+    ensures { OnOk result (text.new.items ≡ text.old.items ++ port_label facts.now port) }
 {
-    push(text, b"    port ")?;
+    push(text, b"port ")?;
     push_number(text, u64::from(port))?;
-    if port < 10 {
-        push(text, b"       ")
-    } else {
-        push(text, b"      ")
+    match facts.name(port) {
+        None => Ok(()),
+        Some(name) => {
+            push(text, b" ")?;
+            push(text, name)
+        }
     }
+}
+
+/// Adds the label as the head of a row.
+#[tactic(auto, unfolding(crate::specs::Rows::head_of))]
+fn push_head(text: &mut Vec<u8>, label: &[u8]) -> Result<(), NoMemory>
+    ensures { OnOk result (text.new.items ≡ text.old.items ++ head_of label.now) }
+{
+    let spaces = [b' '; COLUMNS];
+    push(text, b"    ")?;
+    push(text, label)?;
+    push(text, &spaces[..COLUMNS.saturating_sub(label.len()).max(2)])
+}
+
+/// Adds the head of the row of a port.
+#[tactic(auto, unfolding(crate::specs::Rows::port_name))]
+fn push_name(alloc: Global, text: &mut Vec<u8>, facts: &SideFacts, port: u8) -> Result<(), NoMemory>
+    ensures { OnOk result (text.new.items ≡ text.old.items ++ port_name facts.now port) }
+{
+    let mut label = Vec::new(alloc);
+    push_label(&mut label, facts, port)?;
+    push_head(text, label.as_slice())
 }
 
 /// Adds the row of a port.
 #[tactic(auto, unfolding(crate::specs::Rows::port_row))]
-fn push_port(text: &mut Vec<u8>, header: &Header, port: u8, x: &PortBefore) -> Result<(), NoMemory>
-    ensures { OnOk result (text.new.items ≡ text.old.items ++ port_row header.now port x.now) }
+fn push_port(
+    alloc: Global,
+    text: &mut Vec<u8>,
+    facts: &SideFacts,
+    header: &Header,
+    port: u8,
+    x: &PortBefore,
+) -> Result<(), NoMemory>
+    ensures { OnOk result (text.new.items
+        ≡ text.old.items ++ port_row facts.now header.now port x.now) }
 {
     if is_idle(x) {
         return Ok(());
     }
-    push_name(text, port)?;
+    push_name(alloc, text, facts, port)?;
     push_state(text, is_ace(header, port), x)?;
     push_own(text, &x.own)?;
     push(text, snoop_words(x.snoop))?;
@@ -107,20 +143,22 @@ fn push_port(text: &mut Vec<u8>, header: &Header, port: u8, x: &PortBefore) -> R
 /// Adds the rows of the ports from one on.
 #[tactic(auto, unfolding(crate::specs::Rows::port_rows))]
 pub(crate) fn push_ports(
+    alloc: Global,
     text: &mut Vec<u8>,
+    facts: &SideFacts,
     header: &Header,
     port: u8,
     ports: &[PortBefore],
 ) -> Result<(), NoMemory>
     requires { port + length ports.now ≤ 255 }
     ensures { OnOk result (text.new.items
-        ≡ text.old.items ++ port_rows header.now port ports.now) }
+        ≡ text.old.items ++ port_rows facts.now header.now port ports.now) }
 {
     match ports {
         [] => Ok(()),
         [x, rest @ ..] => {
-            push_port(text, header, port, x)?;
-            push_ports(text, header, port + 1, rest)
+            push_port(alloc, text, facts, header, port, x)?;
+            push_ports(alloc, text, facts, header, port + 1, rest)
         }
     }
 }

@@ -11,7 +11,9 @@ use crate::port_rows::{is_idle, push_ports};
 use ace_event::{Header, Line};
 use ace_io::NoMemory;
 use ace_malformed::{push, push_number};
+use ace_side_facts::SideFacts;
 use ace_writer::TextBuf;
+use std::alloc::Global;
 
 /// The line has no byte but zeros.
 fn is_zero(line: &Line) -> bool
@@ -101,34 +103,44 @@ fn push_head(text: &mut Vec<u8>, index: u64, line: u32) -> Result<(), NoMemory>
 
 /// Adds the rows.
 #[tactic(auto, unfolding(crate::specs::Texts::rows))]
-fn push_rows(text: &mut Vec<u8>, header: &Header, before: &LineBefore) -> Result<(), NoMemory>
-    ensures { OnOk result (text.new.items ≡ text.old.items ++ rows header.now before.now) }
+fn push_rows(
+    alloc: Global,
+    text: &mut Vec<u8>,
+    facts: &SideFacts,
+    header: &Header,
+    before: &LineBefore,
+) -> Result<(), NoMemory>
+    ensures { OnOk result (text.new.items
+        ≡ text.old.items ++ rows facts.now header.now before.now) }
 {
-    push_ports(text, header, 0, &before.ports)?;
+    push_ports(alloc, text, facts, header, 0, &before.ports)?;
     push_memory(text, before)?;
     push_passed(text, &before.passed)?;
     push_grant(text, before)
 }
 
-/// Adds what is told of the line before the event of this number, in a trace with this header.
+/// Adds what is told of the line before the event of this number, in a trace with this header, with
+/// the names of ports that are known.
 ///
 /// # Errors
 ///
 /// `NoMemory` where there is none for the longer text.
 #[tactic(auto, unfolding(crate::specs::Texts::line_text))]
 pub fn push_line_before(
+    alloc: Global,
     text: &mut Vec<u8>,
+    facts: &SideFacts,
     index: u64,
     header: &Header,
     before: &LineBefore,
 ) -> Result<(), NoMemory>
     ensures { OnOk result (text.new.items
-        ≡ text.old.items ++ line_text index header.now before.now) }
+        ≡ text.old.items ++ line_text facts.now index header.now before.now) }
 {
     if is_untouched(before) {
         push_untouched(text, index, before.line)
     } else {
         push_head(text, index, before.line)?;
-        push_rows(text, header, before)
+        push_rows(alloc, text, facts, header, before)
     }
 }

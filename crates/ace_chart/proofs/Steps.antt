@@ -7,7 +7,9 @@ use Rattle.ace_event.specs.declared.header.Header.{Header}
 use Rattle.ace_chart.specs.Cells.{look_cells, rows_cells, state_cell, state_cells}
 use Rattle.ace_chart.specs.Lifelines.{port_head, port_lifelines}
 use Rattle.ace_chart.specs.Marks.{event_text, rows_text}
+use Rattle.ace_chart.specs.Side.{time_text, times_text}
 use Rattle.ace_chart.specs.declared.rows.Row.{Row}
+use Rattle.ace_side_facts.specs.declared.facts.SideFacts.{SideFacts}
 
 pub states_step : (ports row : ℕ) (states : List LineState) (i : ℕ) (d : LineState) → i < length states
     → state_cells ports row i (drop i states)
@@ -40,19 +42,19 @@ unfolding rows_text
 rows_end ports stop rows i past = rw (drop_all i rows past) refl
 
 -- the lifelines from one port on
-ports_more : (h : Header) (bottom p count : ℕ)
-    → port_lifelines h bottom p (suc count) ≡ port_head h bottom p ++ port_lifelines h bottom (p + 1) count
+ports_more : (h : Header) (side : Option SideFacts) (bottom p count : ℕ)
+    → port_lifelines h side bottom p (suc count) ≡ port_head h side bottom p ++ port_lifelines h side bottom (p + 1) count
 unfolding port_lifelines
-ports_more h bottom p count = refl
+ports_more h side bottom p count = refl
 
-pub ports_step : (h : Header) (bottom p : ℕ) → p < h.ports
-    → port_lifelines h bottom p (h.ports - p) ≡ port_head h bottom p ++ port_lifelines h bottom (p + 1) (h.ports - (p + 1))
-ports_step h bottom p few =
-    let one_more : h.ports - p ≡ suc (h.ports - (p + 1)) = omega (arith, few) in rw one_more (ports_more h bottom p (h.ports - (p + 1)))
+pub ports_step : (h : Header) (side : Option SideFacts) (bottom p : ℕ) → p < h.ports
+    → port_lifelines h side bottom p (h.ports - p) ≡ port_head h side bottom p ++ port_lifelines h side bottom (p + 1) (h.ports - (p + 1))
+ports_step h side bottom p few =
+    let one_more : h.ports - p ≡ suc (h.ports - (p + 1)) = omega (arith, few) in rw one_more (ports_more h side bottom p (h.ports - (p + 1)))
 
-pub ports_end : (h : Header) (bottom p : ℕ) → h.ports ≤ p → port_lifelines h bottom p (h.ports - p) ≡ []
+pub ports_end : (h : Header) (side : Option SideFacts) (bottom p : ℕ) → h.ports ≤ p → port_lifelines h side bottom p (h.ports - p) ≡ []
 unfolding port_lifelines
-ports_end h bottom p past = let none_left : h.ports - p ≡ 0 = omega (arith, past) in rw none_left refl
+ports_end h side bottom p past = let none_left : h.ports - p ≡ 0 = omega (arith, past) in rw none_left refl
 
 pub states_next : (ports row : ℕ) (states : List LineState) (i : ℕ) (d : LineState) (before new whole : List ℕ) → i < length states
     → before ++ state_cells ports row i (drop i states) ≡ whole → new ≡ before ++ state_cell ports row i (get_or states i d)
@@ -84,12 +86,31 @@ pub rows_done : (ports : ℕ) (stop : Option Row) (rows : List Row) (i : ℕ) (b
     → before ++ rows_text ports stop i (drop i rows) ≡ whole → before ≡ whole
 rows_done ports stop rows i before whole past so_far = grind (arith, common_steps, so_far, rows_end ports stop rows i past)
 
-pub ports_next : (h : Header) (bottom p : ℕ) (before new whole : List ℕ) → p < h.ports
-    → before ++ port_lifelines h bottom p (h.ports - p) ≡ whole → new ≡ before ++ port_head h bottom p
-    → new ++ port_lifelines h bottom (p + 1) (h.ports - (p + 1)) ≡ whole
-ports_next h bottom p before new whole few so_far added =
-    grind (arith, common_steps, so_far, added, ports_step h bottom p few)
+pub ports_next : (h : Header) (side : Option SideFacts) (bottom p : ℕ) (before new whole : List ℕ) → p < h.ports
+    → before ++ port_lifelines h side bottom p (h.ports - p) ≡ whole → new ≡ before ++ port_head h side bottom p
+    → new ++ port_lifelines h side bottom (p + 1) (h.ports - (p + 1)) ≡ whole
+ports_next h side bottom p before new whole few so_far added =
+    grind (arith, common_steps, so_far, added, ports_step h side bottom p few)
 
-pub ports_done : (h : Header) (bottom p : ℕ) (before whole : List ℕ) → h.ports ≤ p
-    → before ++ port_lifelines h bottom p (h.ports - p) ≡ whole → before ≡ whole
-ports_done h bottom p before whole past so_far = grind (arith, common_steps, so_far, ports_end h bottom p past)
+pub ports_done : (h : Header) (side : Option SideFacts) (bottom p : ℕ) (before whole : List ℕ) → h.ports ≤ p
+    → before ++ port_lifelines h side bottom p (h.ports - p) ≡ whole → before ≡ whole
+ports_done h side bottom p before whole past so_far = grind (arith, common_steps, so_far, ports_end h side bottom p past)
+
+pub times_step : (times : List (Option ℕ)) (i : ℕ) (d : Option ℕ) → i < length times
+    → times_text i (drop i times) ≡ time_text i (get_or times i d) ++ times_text (i + 1) (drop (i + 1) times)
+unfolding times_text
+times_step times i d within = rw (at_drop_more (times_text i) times i d within) refl
+
+pub times_end : (times : List (Option ℕ)) (i : ℕ) → length times ≤ i → times_text i (drop i times) ≡ []
+unfolding times_text
+times_end times i past = rw (drop_all i times past) refl
+
+pub times_next : (times : List (Option ℕ)) (i : ℕ) (d : Option ℕ) (before new whole : List ℕ) → i < length times
+    → before ++ times_text i (drop i times) ≡ whole → new ≡ before ++ time_text i (get_or times i d)
+    → new ++ times_text (i + 1) (drop (i + 1) times) ≡ whole
+times_next times i d before new whole within so_far added =
+    grind (arith, common_steps, so_far, added, times_step times i d within)
+
+pub times_done : (times : List (Option ℕ)) (i : ℕ) (before whole : List ℕ) → length times ≤ i
+    → before ++ times_text i (drop i times) ≡ whole → before ≡ whole
+times_done times i before whole past so_far = grind (arith, common_steps, so_far, times_end times i past)

@@ -65,8 +65,8 @@ grant_cell ports row (Some x) =
 -- what is told of memory, and the class of its bar
 unfoldable pub memory_words : Bool → List ℕ
 memory_words behind =
-    if behind then codes "what is newer than memory may be elsewhere"
-    else codes "memory has the value of the line"
+    if behind then codes "memory lacks the newest value of the line"
+    else codes "memory has the newest value of the line"
 
 unfoldable pub memory_class : Bool → List ℕ
 memory_class behind = if behind then codes "behind" else codes "current"

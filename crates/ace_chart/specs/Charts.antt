@@ -1,5 +1,5 @@
 -- The text of a chart.
-use Rattle.std.specs.Prelude.{ℕ, ◌+◌, ◌≤◌, ◌++◌, ◌==◌, if◌then◌else◌, List, [], codes, decimal, length, is_none, is_some}
+use Rattle.std.specs.Prelude.{ℕ, ◌+◌, ◌≤◌, ◌++◌, ◌==◌, if◌then◌else◌, List, [], Option, codes, decimal, length, map, is_none, is_some, option_map}
 use Rattle.std.specs.List.{AllByRecursion}
 use Rattle.ace_svg.specs.Elements.{rectangle, words_element}
 use Rattle.ace_svg.specs.declared.geometry.Size.{Size}
@@ -8,8 +8,12 @@ use Rattle.ace_chart.specs.Legend.{legend}
 use Rattle.ace_chart.specs.Lifelines.{lifelines}
 use Rattle.ace_chart.specs.Marks.{IsNumbered, IsStopNumbered, band, gap_text, rows_text, stop_text}
 use Rattle.ace_chart.specs.Places.{height, width, y_of}
+use Rattle.ace_chart.specs.Side.{column, column_end, margin}
 use Rattle.ace_chart.specs.Styles.{styles}
 use Rattle.ace_chart.specs.declared.rows.Chart.{Chart}
+use Rattle.ace_chart.specs.declared.rows.Row.{Row}
+use Rattle.ace_model.specs.Trace.{more}
+use Rattle.ace_side_facts.specs.declared.facts.SideFacts.{SideFacts}
 
 -- It has a million rows at most, and its events have the numbers of events.
 pub record IsDrawable (c : Chart) : Type 0 where
@@ -20,6 +24,13 @@ pub record IsDrawable (c : Chart) : Type 0 where
 -- how many rows it has, the event that breaks a rule among them
 abbrev pub count_of : Chart → ℕ
 count_of c = if is_some c.stop then length c.rows.items + 1 else length c.rows.items
+
+-- the number of the last event of each row, the event that breaks a rule among them
+abbrev pub last_of : Row → ℕ
+last_of r = r.last
+
+abbrev pub numbers_of : Chart → List ℕ
+numbers_of c = more (map last_of c.rows.items) (option_map last_of c.stop)
 
 -- the beginning of a picture of a size
 unfoldable pub opening_start : List ℕ
@@ -33,10 +44,10 @@ opening size =
     view_box size ++ codes "\" width=\"" ++ decimal size.width ++ codes "\" height=\""
     ++ decimal size.height ++ codes "\">\n"
 
--- of so many ports and rows
-unfoldable pub page : ℕ → ℕ → List ℕ
-page ports rows =
-    let size : Size = record { width = width ports; height = height rows } in
+-- of so many ports and rows, and so much wider
+unfoldable pub page : ℕ → ℕ → ℕ → List ℕ
+page ports rows wider =
+    let size : Size = record { width = width ports + wider; height = height rows } in
     opening size ++ styles ++ rectangle (codes "page") (record { x = 0; y = 0 }) size
 
 -- the name of the trace, and the verdict on it
@@ -69,11 +80,11 @@ foot rows wrong kept expected got =
     wrong_lines (y_of rows + 36) wrong kept ++ values (y_of rows + 76) expected got
     ++ legend (y_of rows + 126)
 
--- what is behind the events: the page, the heading and the lifelines
-unfoldable pub frame : Chart → List ℕ → List ℕ → List ℕ
-frame c name verdict =
-    page c.header.ports (count_of c) ++ heading name verdict
-    ++ lifelines c.header (y_of (count_of c))
+-- what is behind the events: the page, the heading, the column of times and the lifelines
+unfoldable pub frame : Chart → List ℕ → List ℕ → Option SideFacts → List ℕ
+frame c name verdict side =
+    page c.header.ports (count_of c) (margin side) ++ heading name verdict
+    ++ column side (count_of c) ++ lifelines c.header side (y_of (count_of c))
 
 -- the bars of the line, if there is one
 unfoldable pub line_bars : Chart → List ℕ
@@ -94,8 +105,9 @@ events c =
     ++ stop_text c.header.ports (length c.rows.items) c.stop
 
 -- the chart under the name of its trace and the verdict on it, with what is wrong, where the rule
--- is kept, and what it expects and got
-unfoldable pub chart_text : Chart → List ℕ → List ℕ → List ℕ → List ℕ → List ℕ → List ℕ → List ℕ
-chart_text c name verdict wrong kept expected got =
-    frame c name verdict ++ bands c ++ line_bars c ++ events c
+-- is kept, what it expects and got, and what a side file tells, if there is one
+unfoldable pub chart_text : Chart → List ℕ → List ℕ → List ℕ → List ℕ → List ℕ → List ℕ
+    → Option SideFacts → List ℕ
+chart_text c name verdict wrong kept expected got side =
+    frame c name verdict side ++ bands c ++ line_bars c ++ events c ++ column_end side
     ++ foot (count_of c) wrong kept expected got ++ codes "</svg>\n"

@@ -27,15 +27,19 @@ answer_legend y =
     message_sample (codes "response") 372 y (codes "response B RK WK")
     ++ message_sample (codes "memory") 512 y (codes "memory M")
 
--- the bars
-unfoldable pub bar_legend : ℕ → List ℕ
-bar_legend y =
+-- the bars of states, and the others
+unfoldable pub state_legend : ℕ → List ℕ
+state_legend y =
     bar_sample (codes "UC") 16 y 18 (codes "UC") ++ bar_sample (codes "UD") 80 y 18 (codes "UD")
     ++ bar_sample (codes "SC") 148 y 10 (codes "SC")
     ++ bar_sample (codes "SD") 208 y 10 (codes "SD")
-    ++ bar_sample (codes "grant") 268 y 18 (codes "grant")
+
+unfoldable pub bar_legend : ℕ → List ℕ
+bar_legend y =
+    bar_sample (codes "grant") 268 y 18 (codes "grant")
     ++ bar_sample (codes "current") 344 y 8 (codes "memory current")
-    ++ bar_sample (codes "behind") 472 y 8 (codes "memory maybe behind")
+    ++ bar_sample (codes "behind") 472 y 8 (codes "memory behind")
 
 unfoldable pub legend : ℕ → List ℕ
-legend y = address_legend y ++ snoop_legend y ++ answer_legend y ++ bar_legend (y + 24)
+legend y = address_legend y ++ snoop_legend y ++ answer_legend y ++ state_legend (y + 24)
+    ++ bar_legend (y + 24)

@@ -6,4 +6,5 @@ pub mod Lifelines
 pub mod Marks
 pub mod Places
 pub mod Reasons
+pub mod Side
 pub mod Styles

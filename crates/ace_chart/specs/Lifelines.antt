@@ -1,10 +1,12 @@
 -- The lifelines of a chart, with their heads.
-use Rattle.std.specs.Prelude.{ℕ, zero, suc, ◌+◌, ◌-◌, ◌++◌, if◌then◌else◌, List, [], codes}
+use Rattle.std.specs.Prelude.{ℕ, zero, suc, ◌+◌, ◌-◌, ◌++◌, if◌then◌else◌, List, [], Option, codes}
 use Rattle.ace_event.specs.declared.header.Header.{Header}
 use Rattle.ace_model.specs.Transactions.{is_ace}
 use Rattle.ace_svg.specs.Elements.{line_element, rectangle, words_element}
 use Rattle.ace_words.specs.Kinds.{port_words}
 use Rattle.ace_chart.specs.Places.{x_of}
+use Rattle.ace_chart.specs.Side.{below_port, name_of}
+use Rattle.ace_side_facts.specs.declared.facts.SideFacts.{SideFacts}
 use Rattle.ace_chart.specs.declared.places.Lifeline.TheVariants.{Port, Interconnect, Memory}
 
 -- what is behind a port
@@ -20,18 +22,20 @@ lifeline x bottom name kind =
     ++ words_element (codes "name") (record { x = x; y = 87 }) name
     ++ words_element (codes "kind") (record { x = x; y = 100 }) kind
 
-unfoldable pub port_head : Header → ℕ → ℕ → List ℕ
-port_head h bottom p = lifeline (x_of h.ports (Port p)) bottom (port_words p) (kind_word h p)
+unfoldable pub port_head : Header → Option SideFacts → ℕ → ℕ → List ℕ
+port_head h side bottom p =
+    lifeline (x_of h.ports (Port p)) bottom (port_words p)
+    (below_port (name_of side p) (kind_word h p))
 
 -- those of so many ports, from one on
-unfoldable pub port_lifelines : Header → ℕ → ℕ → ℕ → List ℕ
-port_lifelines h bottom p zero = []
-port_lifelines h bottom p (suc count) =
-    port_head h bottom p ++ port_lifelines h bottom (p + 1) count
+unfoldable pub port_lifelines : Header → Option SideFacts → ℕ → ℕ → ℕ → List ℕ
+port_lifelines h side bottom p zero = []
+port_lifelines h side bottom p (suc count) =
+    port_head h side bottom p ++ port_lifelines h side bottom (p + 1) count
 
 -- those of the ports, of the interconnect and of memory
-unfoldable pub lifelines : Header → ℕ → List ℕ
-lifelines h bottom =
-    port_lifelines h bottom 0 h.ports
+unfoldable pub lifelines : Header → Option SideFacts → ℕ → List ℕ
+lifelines h side bottom =
+    port_lifelines h side bottom 0 h.ports
     ++ lifeline (x_of h.ports Interconnect) bottom (codes "interconnect") []
     ++ lifeline (x_of h.ports Memory) bottom (codes "memory") []

@@ -84,17 +84,28 @@ number_words number =
     codes "event " ++ decimal number ++ codes ", line " ++ decimal (number + 2)
     ++ codes " of the trace"
 
--- the number at the left
-unfoldable pub number_text : ℕ → ℕ → List ℕ
-number_text row number =
-    words_element (codes "number") (record { x = 96; y = y_of row + 4 }) (decimal number)
+-- the same of the first and the last of several, or of one that is alone
+unfoldable pub about_words : ℕ → ℕ → List ℕ
+about_words number last =
+    number_words number
+    ++ (if number == last then [] else codes ", to " ++ number_words last)
 
--- an event: its title, its number at the left, and its mark
+-- the numbers of both
+unfoldable pub numbers_words : ℕ → ℕ → List ℕ
+numbers_words number last =
+    decimal number ++ (if number == last then [] else codes "-" ++ decimal last)
+
+-- the numbers at the left
+unfoldable pub numbers_text : ℕ → ℕ → ℕ → List ℕ
+numbers_text row number last =
+    words_element (codes "number") (record { x = 96; y = y_of row + 4 }) (numbers_words number last)
+
+-- an event or transfers of a burst: the title, the numbers at the left, and the mark
 unfoldable pub row_text : ℕ → ℕ → Bool → Row → List ℕ
 row_text ports row stop r =
-    codes "<g>" ++ title (number_words r.number)
-    ++ number_text row r.number
-    ++ mark_text ports row stop (mark_of r.event) (label r.serves r.event) ++ codes "</g>\n"
+    codes "<g>" ++ title (about_words r.number r.last)
+    ++ numbers_text row r.number r.last
+    ++ mark_text ports row stop (mark_of r.event) (label r) ++ codes "</g>\n"
 
 -- what is told of events that are left out
 unfoldable pub left_out_words : ℕ → List ℕ
@@ -133,9 +144,12 @@ unfoldable pub stop_text : ℕ → ℕ → Option Row → List ℕ
 stop_text ports row None = []
 stop_text ports row (Some r) = row_text ports row true r
 
--- its number is that of an event of a trace
+-- its numbers are those of events of a trace
+abbrev pub IsNumber : ℕ → Type 0
+IsNumber number = number ≤ 18446744073709551613
+
 abbrev pub IsNumbered : Row → Type 0
-IsNumbered r = r.number ≤ 18446744073709551613
+IsNumbered r = IsNumber r.number × IsNumber r.last
 
 abbrev pub IsStopNumbered : Option Row → Type 0
 IsStopNumbered None = ⊤

@@ -5,7 +5,7 @@ use Rattle.std.specs.Prelude.{ℕ, ◌++◌, List, codes}
 -- how words look
 unfoldable pub text_styles : List ℕ
 text_styles =
-    codes "<style>\ntext{font:12px DejaVu Sans,Helvetica,Arial,sans-serif;fill:#1a1a1a}\ntext.heading{font-size:16px;font-weight:bold}\ntext.verdict,text.kind{fill:#595959}\ntext.name,text.kind,text.state,text.label,text.stop-label{text-anchor:middle}\ntext.name,text.state,text.wrong{font-weight:bold}\ntext.kind,text.sample{font-size:10px}\ntext.number{font:10.5px DejaVu Sans Mono,monospace;fill:#595959;text-anchor:end}\ntext.state{font-size:8.5px;stroke:#fff;stroke-width:2;paint-order:stroke}\ntext.label,text.stop-label,text.beside,text.stop-beside{font-size:11px;stroke:#fff;stroke-width:3;paint-order:stroke}\ntext.stop-label,text.stop-beside,text.wrong{fill:#b00020}\ntext.gap{font-size:9px;fill:#595959}\ntext.value{font:10px DejaVu Sans Mono,monospace}\ntext.reason{font-size:10px;fill:#b00020;text-anchor:end;stroke:#fff;stroke-width:3;paint-order:stroke}\n"
+    codes "<style>\ntext{font:12px DejaVu Sans,Helvetica,Arial,sans-serif;fill:#1a1a1a}\ntext.heading{font-size:16px;font-weight:bold}\ntext.verdict,text.kind{fill:#595959}\ntext.name,text.kind,text.state,text.label,text.stop-label{text-anchor:middle}\ntext.name,text.state,text.wrong{font-weight:bold}\ntext.kind,text.sample{font-size:10px}\ntext.number{font:10.5px DejaVu Sans Mono,monospace;fill:#595959;text-anchor:end}\ntext.state{font-size:8.5px;stroke:#fff;stroke-width:2;paint-order:stroke}\ntext.label,text.stop-label,text.beside,text.stop-beside{font-size:11px;stroke:#fff;stroke-width:3;paint-order:stroke}\ntext.stop-label,text.stop-beside,text.wrong{fill:#b00020}\ntext.time{font:10px DejaVu Sans Mono,monospace;fill:#595959}\ntext.gap{font-size:9px;fill:#595959}\ntext.value{font:10px DejaVu Sans Mono,monospace}\ntext.reason{font-size:10px;fill:#b00020;text-anchor:end;stroke:#fff;stroke-width:3;paint-order:stroke}\n"
 
 -- how bars, bands and squares look
 unfoldable pub bar_styles : List ℕ

@@ -159,9 +159,9 @@ fn memory_words(behind: bool) -> &'static [u8]
     ensures { result.now ≡ memory_words behind }
 {
     if behind {
-        b"what is newer than memory may be elsewhere"
+        b"memory lacks the newest value of the line"
     } else {
-        b"memory has the value of the line"
+        b"memory has the newest value of the line"
     }
 }
 

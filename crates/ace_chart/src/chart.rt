@@ -1,7 +1,8 @@
 // The text of a chart.
 ghost use Rattle.std.specs.Prelude.{◌≡◌, ◌≤◌, ◌++◌, IfOk, OnOk, codes, length};
 ghost use Rattle.std.specs.List.{AllByRecursion};
-ghost use Rattle.ace_chart.specs.Charts.{IsDrawable, bands, chart_text, count_of, events, frame, line_bars};
+ghost use Rattle.ace_chart.specs.Charts.{IsDrawable, bands, chart_text, count_of, events, frame, line_bars, numbers_of};
+ghost use Rattle.std.specs.Option.{option_copied};
 
 use crate::cells::{push_cells, push_last};
 use crate::frame::{Below, push_foot, push_heading, push_page};
@@ -9,7 +10,9 @@ use crate::lifelines::push_lifelines;
 use crate::marks::{push_band, push_gap, push_rows, push_stop};
 use crate::places::y_of;
 use crate::rows::Chart;
+use crate::side::{margin, push_column, push_column_end};
 use ace_io::NoMemory;
+use ace_side_facts::SideFacts;
 use ace_svg::push;
 use std::alloc::Global;
 
@@ -23,22 +26,24 @@ fn count_of(chart: &Chart) -> u64
     if chart.stop.is_some() { rows + 1 } else { rows }
 }
 
-/// Adds what is behind the events: the page, the heading and the lifelines.
+/// Adds what is behind the events: the page, the heading, the column of times and the lifelines.
 #[tactic(auto, unfolding(crate::specs::Charts::frame))]
 fn push_frame(
     text: &mut Vec<u8>,
     chart: &Chart,
     name: &[u8],
     verdict: &[u8],
+    side: Option<&SideFacts>,
 ) -> Result<(), NoMemory>
     requires { IsDrawable chart.now }
-    ensures { OnOk result (text.new.items
-        ≡ text.old.items ++ frame chart.now name.now verdict.now) }
+    ensures { OnOk result (text.new.items ≡ text.old.items
+        ++ frame chart.now name.now verdict.now (option_copied side.entry)) }
 {
     let rows = count_of(chart);
-    push_page(text, chart.header.ports, rows)?;
+    push_page(text, chart.header.ports, rows, margin(side))?;
     push_heading(text, name, verdict)?;
-    push_lifelines(text, &chart.header, y_of(rows))
+    push_column(text, side, rows)?;
+    push_lifelines(text, &chart.header, side, y_of(rows))
 }
 
 /// Adds the bars of the line, if there is one.
@@ -90,21 +95,47 @@ fn push_chart(
     name: &[u8],
     verdict: &[u8],
     below: &Below<'_>,
+    side: Option<&SideFacts>,
 ) -> Result<(), NoMemory>
     requires { IsDrawable chart.now }
     ensures { OnOk result (text.new.items ≡ text.old.items
         ++ chart_text chart.now name.now verdict.now below.now.wrong.now below.now.kept.now
-        below.now.expected.now below.now.got.now) }
+        below.now.expected.now below.now.got.now (option_copied side.entry)) }
 {
-    push_frame(text, chart, name, verdict)?;
+    push_frame(text, chart, name, verdict, side)?;
     push_bands(text, chart)?;
     push_line_bars(text, chart)?;
     push_events(alloc, text, chart)?;
+    push_column_end(text, side)?;
     push_foot(text, count_of(chart), below)?;
     push(text, b"</svg>\n")
 }
 
-/// The chart as SVG, under the name of its trace and the verdict on it, with what is told below it.
+/// The number of the last event of each row, the event that breaks a rule among them: those whose
+/// times are drawn.
+///
+/// # Errors
+///
+/// `NoMemory` where there is none for them.
+pub fn row_numbers(alloc: Global, chart: &Chart) -> Result<Vec<u64>, NoMemory>
+    ensures { IfOk result (λ numbers. numbers.items ≡ numbers_of chart.now) }
+{
+    let mut numbers = Vec::new(alloc);
+    for row in &chart.rows {
+        if numbers.push(row.last).is_err() {
+            return Err(NoMemory);
+        }
+    }
+    if let Some(row) = &chart.stop {
+        if numbers.push(row.last).is_err() {
+            return Err(NoMemory);
+        }
+    }
+    Ok(numbers)
+}
+
+/// The chart as SVG, under the name of its trace and the verdict on it, with what is told below it,
+/// and, where there is a side file, the names of ports and the times that it tells of the rows.
 ///
 /// # Errors
 ///
@@ -115,13 +146,14 @@ pub fn chart_text(
     name: &[u8],
     verdict: &[u8],
     below: &Below<'_>,
+    side: Option<&SideFacts>,
 ) -> Result<Vec<u8>, NoMemory>
     requires { IsDrawable chart.now }
     ensures { IfOk result (λ text. text.items
         ≡ chart_text chart.now name.now verdict.now below.now.wrong.now below.now.kept.now
-        below.now.expected.now below.now.got.now) }
+        below.now.expected.now below.now.got.now (option_copied side.entry)) }
 {
     let mut text = Vec::new(alloc);
-    push_chart(alloc, &mut text, chart, name, verdict, below)?;
+    push_chart(alloc, &mut text, chart, name, verdict, below, side)?;
     Ok(text)
 }

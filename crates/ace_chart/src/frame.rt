@@ -41,14 +41,20 @@ fn push_opening(text: &mut Vec<u8>, size: Size) -> Result<(), NoMemory>
     push(text, b"\">\n")
 }
 
-/// Adds the beginning of the picture of so many ports and rows.
+/// Adds the beginning of the picture of so many ports and rows, which is so much wider.
 #[tactic(auto, unfolding(crate::specs::Charts::page))]
-pub(crate) fn push_page(text: &mut Vec<u8>, ports: u8, rows: u64) -> Result<(), NoMemory>
-    requires { rows ≤ 1000001 }
-    ensures { OnOk result (text.new.items ≡ text.old.items ++ page ports rows) }
+pub(crate) fn push_page(
+    text: &mut Vec<u8>,
+    ports: u8,
+    rows: u64,
+    wider: u64,
+) -> Result<(), NoMemory>
+    requires rows { rows ≤ 1000001 }
+    requires wider { wider ≤ 84 }
+    ensures { OnOk result (text.new.items ≡ text.old.items ++ page ports rows wider) }
 {
     let size = Size {
-        width: width(ports),
+        width: width(ports) + wider,
         height: height(rows),
     };
     push_opening(text, size)?;

@@ -1,11 +1,12 @@
 // The labels of events: the record of each, and what tells it from others.
-ghost use Rattle.std.specs.Prelude.{◌≡◌, ◌++◌, IfOk, OnOk, codes, decimal};
+ghost use Rattle.std.specs.Prelude.{◌≡◌, ◌++◌, ◌==◌, if◌then◌else◌, [], IfOk, OnOk, codes, decimal};
 ghost use Rattle.ace_event.specs.Text.{outcome_text, state_text};
 ghost use Rattle.ace_event_words.specs.SmallWords.{bit_word};
 ghost use Rattle.ace_words.specs.Kinds.{port_words};
 ghost use Rattle.ace_event_words.specs.KindWords.{read_words, served_words, snoop_words, write_words};
-ghost use Rattle.ace_chart.specs.Labels.{answer_words, label, low_word, named, of_port, resp_words, with_lock, with_state};
+ghost use Rattle.ace_chart.specs.Labels.{answer_words, burst_text, burst_words, event_label, label, label_of, low_word, named, of_port, owner_words, resp_words, transfer_words, version_text, version_words, with_lock, with_state};
 
+use crate::rows::{Burst, Row, Version};
 use ace_codes::{
     LineState, has_error, is_shared, low_bits, passes_dirty, transfers_data, was_unique,
 };
@@ -82,12 +83,106 @@ fn push_of_port(text: &mut Vec<u8>, record: &[u8], port: u8, words: &[u8]) -> Re
     push(text, words)
 }
 
-/// Adds a read transfer.
-#[tactic(auto, unfolding(crate::specs::Labels::resp_words))]
-fn push_transfer(text: &mut Vec<u8>, words: &[u8], resp: u8) -> Result<(), NoMemory>
-    ensures { OnOk result (text.new.items ≡ text.old.items ++ resp_words words.now resp) }
+/// Adds the number of the last transfer, if it isn't the first.
+fn push_last(text: &mut Vec<u8>, first: u8, last: u8) -> Result<(), NoMemory>
+    ensures { OnOk result (text.new.items ≡ text.old.items
+        ++ (if first == last then [] else codes "-" ++ decimal last)) }
 {
-    push_named(text, b"R", words)?;
+    if first == last {
+        return Ok(());
+    }
+    push(text, b"-")?;
+    push_number(text, u64::from(last))
+}
+
+/// Adds which transfers of a burst they are.
+#[tactic(auto, unfolding(crate::specs::Labels::burst_text))]
+fn push_burst_text(text: &mut Vec<u8>, burst: &Burst) -> Result<(), NoMemory>
+    ensures { OnOk result (text.new.items ≡ text.old.items ++ burst_text burst.now) }
+{
+    push(text, b" ")?;
+    push_number(text, u64::from(burst.first))?;
+    push_last(text, burst.first, burst.last)?;
+    push(text, b"/")?;
+    push_number(text, u64::from(burst.beats))
+}
+
+/// The same, if they are some.
+fn push_burst(text: &mut Vec<u8>, burst: &Option<Burst>) -> Result<(), NoMemory>
+    ensures { OnOk result (text.new.items ≡ text.old.items ++ burst_words burst.now) }
+{
+    match burst {
+        Some(burst) => push_burst_text(text, burst),
+        None => Ok(()),
+    }
+}
+
+/// Adds which value of the line it is.
+#[tactic(auto, unfolding(crate::specs::Labels::version_text))]
+fn push_version_text(text: &mut Vec<u8>, version: &Version) -> Result<(), NoMemory>
+    ensures { OnOk result (text.new.items ≡ text.old.items ++ version_text version.now) }
+{
+    match version {
+        Version::Known { stores } => {
+            push(text, b" v")?;
+            push_number(text, *stores)
+        }
+        Version::Unknown => push(text, b" v?"),
+    }
+}
+
+/// The same, if it is told.
+fn push_version(text: &mut Vec<u8>, version: &Option<Version>) -> Result<(), NoMemory>
+    ensures { OnOk result (text.new.items ≡ text.old.items ++ version_words version.now) }
+{
+    match version {
+        Some(version) => push_version_text(text, version),
+        None => Ok(()),
+    }
+}
+
+/// Adds what transfers belong to, which is left out where the line is told by its value.
+fn push_owner(
+    text: &mut Vec<u8>,
+    burst: &Option<Burst>,
+    version: &Option<Version>,
+    words: &[u8],
+) -> Result<(), NoMemory>
+    ensures { OnOk result (text.new.items
+        ≡ text.old.items ++ owner_words burst.now version.now words.now) }
+{
+    match (burst, version) {
+        (Some(_), Some(_)) => Ok(()),
+        _ => {
+            push(text, b" ")?;
+            push(text, words)
+        }
+    }
+}
+
+/// Adds transfers of a transaction that is called so.
+#[tactic(auto, unfolding(crate::specs::Labels::transfer_words))]
+fn push_transfer(
+    text: &mut Vec<u8>,
+    record: &[u8],
+    burst: &Option<Burst>,
+    version: &Option<Version>,
+    words: &[u8],
+) -> Result<(), NoMemory>
+    ensures { OnOk result (text.new.items ≡ text.old.items
+        ++ transfer_words record.now burst.now version.now words.now) }
+{
+    push(text, record)?;
+    push_owner(text, burst, version, words)?;
+    push_burst(text, burst)?;
+    push_version(text, version)
+}
+
+/// Adds what the response of a read says.
+#[tactic(auto, unfolding(crate::specs::Labels::resp_words))]
+fn push_response(text: &mut Vec<u8>, resp: u8) -> Result<(), NoMemory>
+    ensures { OnOk result (text.new.items ≡ text.old.items ++ resp_words resp) }
+{
     push(text, low_word(resp))?;
     push(text, bit_word(passes_dirty(resp), b" PassDirty"))?;
     push(text, bit_word(is_shared(resp), b" IsShared"))
@@ -106,13 +201,14 @@ fn push_answer(text: &mut Vec<u8>, resp: u8, state: LineState) -> Result<(), NoM
     push(text, bit_word(was_unique(resp), b" WasUnique"))
 }
 
-/// Adds the label of an event that belongs to the transaction, if it belongs to one.
-fn push_label(
+/// Adds what tells an event that belongs to the transaction, if it belongs to one; nothing of a
+/// transfer.
+fn push_event(
     text: &mut Vec<u8>,
     serves: &Option<Transaction>,
     event: &Event,
 ) -> Result<(), NoMemory>
-    ensures { OnOk result (text.new.items ≡ text.old.items ++ label serves.now event.now) }
+    ensures { OnOk result (text.new.items ≡ text.old.items ++ event_label serves.now event.now) }
 {
     let words = served_words(serves);
     match *event {
@@ -123,7 +219,7 @@ fn push_label(
             lock,
             ..
         } => push_with_lock(text, b"AR", read_words(snoop, dom, bar), lock),
-        Event::R { resp, .. } => push_transfer(text, words, resp),
+        Event::R { .. } | Event::W { .. } | Event::Cd { .. } => Ok(()),
         Event::Rk { st, .. } => push_with_state(text, b"RK", words, st),
         Event::Aw {
             snoop,
@@ -131,7 +227,6 @@ fn push_label(
             bar,
             ..
         } => push_named(text, b"AW", write_words(snoop, dom, bar)),
-        Event::W { .. } => push_named(text, b"W", words),
         Event::B { resp, .. } => {
             push_named(text, b"B", words)?;
             push(text, low_word(resp))
@@ -139,7 +234,6 @@ fn push_label(
         Event::Wk { st, .. } => push_with_state(text, b"WK", words, st),
         Event::Ac { snoop, .. } => push_named(text, b"AC", snoop_words(snoop)),
         Event::Cr { resp, st, .. } => push_answer(text, resp, st),
-        Event::Cd { .. } => push(text, b"CD"),
         Event::G { port, .. } => push_of_port(text, b"G", port, words),
         Event::M { port, .. } => push_of_port(text, b"M", port, words),
         Event::S { st, .. } => push_named(text, b"S", state_word(st)),
@@ -159,19 +253,39 @@ fn push_label(
     }
 }
 
-/// The label of an event that belongs to the transaction, if it belongs to one.
+/// Adds the label of a row.
+fn push_label(text: &mut Vec<u8>, row: &Row) -> Result<(), NoMemory>
+    ensures { OnOk result (text.new.items ≡ text.old.items
+        ++ label_of row.now.burst row.now.version row.now.serves row.now.event) }
+{
+    let words = served_words(&row.serves);
+    match row.event {
+        Event::R { resp, .. } => {
+            push_transfer(text, b"R", &row.burst, &row.version, words)?;
+            push_response(text, resp)
+        }
+        Event::W { .. } => push_transfer(text, b"W", &row.burst, &row.version, words),
+        Event::Cd { .. } => {
+            push(text, b"CD")?;
+            push_burst(text, &row.burst)?;
+            push_version(text, &row.version)
+        }
+        _ => {
+            push_event(text, &row.serves, &row.event)?;
+            push_version(text, &row.version)
+        }
+    }
+}
+
+/// The label of a row.
 ///
 /// # Errors
 ///
 /// `NoMemory` where there is none for the words.
-pub(crate) fn label(
-    alloc: Global,
-    serves: &Option<Transaction>,
-    event: &Event,
-) -> Result<Vec<u8>, NoMemory>
-    ensures { IfOk result (λ words. words.items ≡ label serves.now event.now) }
+pub(crate) fn label(alloc: Global, row: &Row) -> Result<Vec<u8>, NoMemory>
+    ensures { IfOk result (λ words. words.items ≡ label row.now) }
 {
     let mut words = Vec::new(alloc);
-    push_label(&mut words, serves, event)?;
+    push_label(&mut words, row)?;
     Ok(words)
 }

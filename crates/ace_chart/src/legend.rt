@@ -1,6 +1,6 @@
 // What the colours, dashes and widths of a chart mean.
 ghost use Rattle.std.specs.Prelude.{◌≡◌, ◌≤◌, ◌++◌, ◌+◌, OnOk, codes};
-ghost use Rattle.ace_chart.specs.Legend.{address_legend, answer_legend, bar_legend, bar_sample, legend, message_sample, snoop_legend};
+ghost use Rattle.ace_chart.specs.Legend.{address_legend, answer_legend, bar_legend, bar_sample, legend, message_sample, snoop_legend, state_legend};
 
 use ace_io::NoMemory;
 use ace_svg::{Point, Size, push_line, push_rectangle, push_words};
@@ -86,19 +86,27 @@ fn push_answers(text: &mut Vec<u8>, y: u64) -> Result<(), NoMemory>
     push_message(text, b"memory", 512, y, b"memory M")
 }
 
-/// Adds what the bars mean.
+/// Adds what the bars of states mean.
+#[tactic(auto, unfolding(crate::specs::Legend::state_legend))]
+fn push_states(text: &mut Vec<u8>, y: u64) -> Result<(), NoMemory>
+    requires { (8 ≤ y) × (y ≤ 30000000) }
+    ensures { OnOk result (text.new.items ≡ text.old.items ++ state_legend y) }
+{
+    push_bar(text, b"UC", 16, y, 18, b"UC")?;
+    push_bar(text, b"UD", 80, y, 18, b"UD")?;
+    push_bar(text, b"SC", 148, y, 10, b"SC")?;
+    push_bar(text, b"SD", 208, y, 10, b"SD")
+}
+
+/// Adds what the other bars mean.
 #[tactic(auto, unfolding(crate::specs::Legend::bar_legend))]
 fn push_bars(text: &mut Vec<u8>, y: u64) -> Result<(), NoMemory>
     requires { (8 ≤ y) × (y ≤ 30000000) }
     ensures { OnOk result (text.new.items ≡ text.old.items ++ bar_legend y) }
 {
-    push_bar(text, b"UC", 16, y, 18, b"UC")?;
-    push_bar(text, b"UD", 80, y, 18, b"UD")?;
-    push_bar(text, b"SC", 148, y, 10, b"SC")?;
-    push_bar(text, b"SD", 208, y, 10, b"SD")?;
     push_bar(text, b"grant", 268, y, 18, b"grant")?;
     push_bar(text, b"current", 344, y, 8, b"memory current")?;
-    push_bar(text, b"behind", 472, y, 8, b"memory maybe behind")
+    push_bar(text, b"behind", 472, y, 8, b"memory behind")
 }
 
 /// Adds the legend.
@@ -110,5 +118,6 @@ pub(crate) fn push_legend(text: &mut Vec<u8>, y: u64) -> Result<(), NoMemory>
     push_addresses(text, y)?;
     push_snoops(text, y)?;
     push_answers(text, y)?;
+    push_states(text, y + 24)?;
     push_bars(text, y + 24)
 }

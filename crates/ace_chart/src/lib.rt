@@ -12,10 +12,11 @@ mod marks;
 mod places;
 mod reasons;
 mod rows;
+mod side;
 mod styles;
 
-pub use chart::chart_text;
+pub use chart::{chart_text, row_numbers};
 pub use frame::Below;
 pub use places::{Lifeline, MOST_ROWS};
 pub use reasons::Reason;
-pub use rows::{Chart, Look, Row};
+pub use rows::{Burst, Chart, Look, Row, Version};

@@ -2,11 +2,15 @@
 ghost use Rattle.std.specs.Prelude.{◌≡◌, ◌≤◌, ◌++◌, ◌+◌, OnOk, codes};
 ghost use Rattle.ace_chart.specs.Lifelines.{kind_word, lifeline, lifelines, port_head, port_lifelines};
 ghost use Rattle.ace_words.specs.Kinds.{port_words};
+ghost use Rattle.std.specs.Option.{option_copied};
+ghost use Rattle.ace_chart.specs.Side.{below_port, name_of};
 
 use crate::places::{Lifeline, x_of};
+use crate::side::below_port;
 use ace_event::Header;
 use ace_io::NoMemory;
 use ace_model::kinds::is_ace;
+use ace_side_facts::SideFacts;
 use ace_svg::{Point, Size, push_line, push_rectangle, push_words};
 use ace_words::push_port;
 use ace_writer::TextBuf;
@@ -55,24 +59,32 @@ fn push_lifeline(
 fn push_port_lifeline(
     text: &mut Vec<u8>,
     header: &Header,
+    side: Option<&SideFacts>,
     bottom: u64,
     port: u8,
 ) -> Result<(), NoMemory>
-    ensures { OnOk result (text.new.items ≡ text.old.items ++ port_head header.now bottom port) }
+    ensures { OnOk result (text.new.items
+        ≡ text.old.items ++ port_head header.now (option_copied side.entry) bottom port) }
 {
     let mut name = TextBuf::empty();
     push_port(&mut name, port);
     let x = x_of(header.ports, Lifeline::Port(port));
-    push_lifeline(text, x, bottom, name.bytes(), kind_word(header, port))
+    let below = below_port(side, port, kind_word(header, port));
+    push_lifeline(text, x, bottom, name.bytes(), below)
 }
 
 /// Adds the lifelines of all ports.
-fn push_ports(text: &mut Vec<u8>, header: &Header, bottom: u64) -> Result<(), NoMemory>
-    ensures { OnOk result (text.new.items
-        ≡ text.old.items ++ port_lifelines header.now bottom 0 header.now.ports) }
+fn push_ports(
+    text: &mut Vec<u8>,
+    header: &Header,
+    side: Option<&SideFacts>,
+    bottom: u64,
+) -> Result<(), NoMemory>
+    ensures { OnOk result (text.new.items ≡ text.old.items
+        ++ port_lifelines header.now (option_copied side.entry) bottom 0 header.now.ports) }
 {
     for port in 0..header.ports {
-        push_port_lifeline(text, header, bottom, port)?;
+        push_port_lifeline(text, header, side, bottom, port)?;
     }
     Ok(())
 }
@@ -82,11 +94,13 @@ fn push_ports(text: &mut Vec<u8>, header: &Header, bottom: u64) -> Result<(), No
 pub(crate) fn push_lifelines(
     text: &mut Vec<u8>,
     header: &Header,
+    side: Option<&SideFacts>,
     bottom: u64,
 ) -> Result<(), NoMemory>
-    ensures { OnOk result (text.new.items ≡ text.old.items ++ lifelines header.now bottom) }
+    ensures { OnOk result (text.new.items
+        ≡ text.old.items ++ lifelines header.now (option_copied side.entry) bottom) }
 {
-    push_ports(text, header, bottom)?;
+    push_ports(text, header, side, bottom)?;
     let middle = x_of(header.ports, Lifeline::Interconnect);
     push_lifeline(text, middle, bottom, b"interconnect", b"")?;
     let right = x_of(header.ports, Lifeline::Memory);

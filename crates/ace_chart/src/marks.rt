@@ -1,6 +1,6 @@
 // The events of a chart: arrows and steps, with their numbers and labels.
-ghost use Rattle.std.specs.Prelude.{◌≡◌, ◌≤◌, ◌++◌, ◌+◌, IfOk, OnOk, codes, decimal, length};
-ghost use Rattle.ace_chart.specs.Marks.{IsNumbered, IsStopNumbered, arrow, band, beside_class, event_text, gap, gap_text, label_class, left_out_words, mark_of, mark_text, message, number_text, number_words, row_text, rows_text, step, stop_text, style_word};
+ghost use Rattle.std.specs.Prelude.{◌≡◌, ◌≤◌, ◌++◌, ◌+◌, ◌==◌, if◌then◌else◌, [], IfOk, OnOk, codes, decimal, length};
+ghost use Rattle.ace_chart.specs.Marks.{IsNumber, IsNumbered, IsStopNumbered, about_words, arrow, band, beside_class, event_text, gap, gap_text, label_class, left_out_words, mark_of, mark_text, message, number_words, numbers_text, numbers_words, row_text, rows_text, step, stop_text, style_word};
 ghost use Rattle.ace_chart.specs.Labels.{label};
 ghost use Rattle.ace_svg.specs.Elements.{title};
 ghost use Rattle.std.specs.List.{AllByRecursion};
@@ -12,7 +12,6 @@ use crate::rows::Row;
 use ace_event::Event;
 use ace_io::NoMemory;
 use ace_svg::{Point, Size, push, push_line, push_number, push_rectangle, push_title, push_words};
-use itoa::Buffer;
 use std::alloc::Global;
 
 /// What a message or a step is about, and so how it looks.
@@ -239,42 +238,94 @@ fn push_mark(
     }
 }
 
-/// The words for the number of an event and the line of the trace that it is.
+/// Adds the number of an event and the line of the trace that it is.
 #[tactic(auto, unfolding(crate::specs::Marks::number_words))]
-fn number_words(alloc: Global, number: u64) -> Result<Vec<u8>, NoMemory>
-    requires { number ≤ 18446744073709551613 }
-    ensures { IfOk result (λ words. words.items ≡ number_words number) }
+fn push_number_words(words: &mut Vec<u8>, number: u64) -> Result<(), NoMemory>
+    requires { IsNumber number }
+    ensures { OnOk result (words.new.items ≡ words.old.items ++ number_words number) }
+{
+    push(words, b"event ")?;
+    push_number(words, number)?;
+    push(words, b", line ")?;
+    push_number(words, number + 2)?;
+    push(words, b" of the trace")
+}
+
+/// Adds the same of the last of several, which isn't the first.
+fn push_to(words: &mut Vec<u8>, number: u64, last: u64) -> Result<(), NoMemory>
+    requires { IsNumber last }
+    ensures { OnOk result (words.new.items ≡ words.old.items
+        ++ (if number == last then [] else codes ", to " ++ number_words last)) }
+{
+    if number == last {
+        return Ok(());
+    }
+    push(words, b", to ")?;
+    push_number_words(words, last)
+}
+
+/// The words for the numbers of a row and the lines of the trace that they are.
+#[tactic(auto, unfolding(crate::specs::Marks::about_words))]
+fn about_words(alloc: Global, number: u64, last: u64) -> Result<Vec<u8>, NoMemory>
+    requires { IsNumber number × IsNumber last }
+    ensures { IfOk result (λ words. words.items ≡ about_words number last) }
 {
     let mut words = Vec::new(alloc);
-    push(&mut words, b"event ")?;
-    push_number(&mut words, number)?;
-    push(&mut words, b", line ")?;
-    push_number(&mut words, number + 2)?;
-    push(&mut words, b" of the trace")?;
+    push_number_words(&mut words, number)?;
+    push_to(&mut words, number, last)?;
     Ok(words)
 }
 
-/// Adds the title of an event.
-fn push_about(alloc: Global, text: &mut Vec<u8>, number: u64) -> Result<(), NoMemory>
-    requires { number ≤ 18446744073709551613 }
-    ensures { OnOk result (text.new.items ≡ text.old.items ++ title (number_words number)) }
+/// Adds the title of a row.
+fn push_about(alloc: Global, text: &mut Vec<u8>, number: u64, last: u64) -> Result<(), NoMemory>
+    requires { IsNumber number × IsNumber last }
+    ensures { OnOk result (text.new.items ≡ text.old.items ++ title (about_words number last)) }
 {
-    let words = number_words(alloc, number)?;
+    let words = about_words(alloc, number, last)?;
     push_title(text, &words)
 }
 
-/// Adds the number of an event at the left.
-#[tactic(auto, unfolding(crate::specs::Marks::number_text))]
-fn push_left(text: &mut Vec<u8>, row: u64, number: u64) -> Result<(), NoMemory>
+/// Adds the number of the last event of a row, if it isn't the first.
+fn push_last(words: &mut Vec<u8>, number: u64, last: u64) -> Result<(), NoMemory>
+    ensures { OnOk result (words.new.items ≡ words.old.items
+        ++ (if number == last then [] else codes "-" ++ decimal last)) }
+{
+    if number == last {
+        return Ok(());
+    }
+    push(words, b"-")?;
+    push_number(words, last)
+}
+
+/// The words for the numbers of a row.
+#[tactic(auto, unfolding(crate::specs::Marks::numbers_words))]
+fn numbers_words(alloc: Global, number: u64, last: u64) -> Result<Vec<u8>, NoMemory>
+    ensures { IfOk result (λ words. words.items ≡ numbers_words number last) }
+{
+    let mut words = Vec::new(alloc);
+    push_number(&mut words, number)?;
+    push_last(&mut words, number, last)?;
+    Ok(words)
+}
+
+/// Adds the numbers of a row at the left.
+#[tactic(auto, unfolding(crate::specs::Marks::numbers_text))]
+fn push_left(
+    alloc: Global,
+    text: &mut Vec<u8>,
+    row: u64,
+    number: u64,
+    last: u64,
+) -> Result<(), NoMemory>
     requires { row ≤ 1000000 }
-    ensures { OnOk result (text.new.items ≡ text.old.items ++ number_text row number) }
+    ensures { OnOk result (text.new.items ≡ text.old.items ++ numbers_text row number last) }
 {
     let place = Point {
         x: 96,
         y: y_of(row) + 4,
     };
-    let mut digits = Buffer::new();
-    push_words(text, b"number", place, digits.format(number).as_bytes())
+    let words = numbers_words(alloc, number, last)?;
+    push_words(text, b"number", place, &words)
 }
 
 /// Adds the mark of an event with its label.
@@ -288,10 +339,9 @@ fn push_labelled(
 ) -> Result<(), NoMemory>
     requires { row ≤ 1000000 }
     ensures { OnOk result (text.new.items ≡ text.old.items
-        ++ mark_text ports row stop (mark_of drawn.now.event)
-        (label drawn.now.serves drawn.now.event)) }
+        ++ mark_text ports row stop (mark_of drawn.now.event) (label drawn.now)) }
 {
-    let words = label(alloc, &drawn.serves, &drawn.event)?;
+    let words = label(alloc, drawn)?;
     push_mark(text, ports, row, stop, mark_of(&drawn.event), &words)
 }
 
@@ -306,12 +356,12 @@ fn push_row(
     drawn: &Row,
 ) -> Result<(), NoMemory>
     requires row { row ≤ 1000000 }
-    requires number { drawn.now.number ≤ 18446744073709551613 }
+    requires number { IsNumbered drawn.now }
     ensures { OnOk result (text.new.items ≡ text.old.items ++ row_text ports row stop drawn.now) }
 {
     push(text, b"<g>")?;
-    push_about(alloc, text, drawn.number)?;
-    push_left(text, row, drawn.number)?;
+    push_about(alloc, text, drawn.number, drawn.last)?;
+    push_left(alloc, text, row, drawn.number, drawn.last)?;
     push_labelled(alloc, text, ports, row, stop, drawn)?;
     push(text, b"</g>\n")
 }
@@ -381,7 +431,7 @@ fn push_event(
     drawn: &Row,
 ) -> Result<(), NoMemory>
     requires row { row ≤ 1000000 }
-    requires number { drawn.now.number ≤ 18446744073709551613 }
+    requires number { IsNumbered drawn.now }
     ensures { OnOk result (text.new.items
         ≡ text.old.items ++ event_text ports stop.now row drawn.now) }
 {

@@ -9,18 +9,42 @@ pub struct Look {
     pub states: [LineState; 32],
     /// The transaction that is granted on the line.
     pub granted: Option<Transaction>,
-    /// What is newer than memory may be elsewhere: a port holds the line dirty, or data were
-    /// passed, or the granted transaction replaces the line or gives up what is newer.
+    /// Memory lacks the newest value of the line.
     pub behind: bool,
 }
 
-/// An event of the line, and what there was of the line before it.
+/// Which transfers of a burst are told of: those from one to another, numbered from 1.
+#[derive(Clone, Copy, Debug, PartialEq, Eq)]
+pub struct Burst {
+    pub first: u8,
+    pub last: u8,
+    /// How many the burst has.
+    pub beats: u8,
+}
+
+/// Which value of its line an event carries, makes or finds.
+#[derive(Clone, Copy, Debug, PartialEq, Eq)]
+pub enum Version {
+    /// That behind so many stores to the line; behind none it is what the line opens with.
+    Known { stores: u64 },
+    /// None that the line has had.
+    Unknown,
+}
+
+/// An event of the line, or transfers of one burst one after another, and what there was of the
+/// line before.
 #[derive(Clone, Copy, Debug, PartialEq, Eq)]
 pub struct Row {
-    /// The number of the event in its trace, from 1.
+    /// The number of the event in its trace, from 1, or of the first transfer.
     pub number: u64,
-    /// The event.
+    /// The number of the last transfer; that of the event, where it is alone.
+    pub last: u64,
+    /// The event, or the first transfer.
     pub event: Event,
+    /// Which transfers of a burst they are, if they are some.
+    pub burst: Option<Burst>,
+    /// Which value of the line that is drawn the data are, if it is told.
+    pub version: Option<Version>,
     /// The transaction that it begins or belongs to.
     pub serves: Option<Transaction>,
     /// What there was of the line before it.

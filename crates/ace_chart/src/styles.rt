@@ -22,6 +22,7 @@ text.number{font:10.5px DejaVu Sans Mono,monospace;fill:#595959;text-anchor:end}
 text.state{font-size:8.5px;stroke:#fff;stroke-width:2;paint-order:stroke}\n\
 text.label,text.stop-label,text.beside,text.stop-beside{font-size:11px;stroke:#fff;stroke-width:3;paint-order:stroke}\n\
 text.stop-label,text.stop-beside,text.wrong{fill:#b00020}\n\
+text.time{font:10px DejaVu Sans Mono,monospace;fill:#595959}\n\
 text.gap{font-size:9px;fill:#595959}\n\
 text.value{font:10px DejaVu Sans Mono,monospace}\n\
 text.reason{font-size:10px;fill:#b00020;text-anchor:end;stroke:#fff;stroke-width:3;paint-order:stroke}\n"

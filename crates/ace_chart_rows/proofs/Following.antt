@@ -6,7 +6,9 @@ use Rattle.ace_chart.specs.declared.rows.Chart.{Chart}
 use Rattle.ace_chart_rows.specs.Charts.{AreDrawn, HasFollowed, HasHeard, IsChartOf, row_at_end, rule_at_end}
 use Rattle.ace_chart_rows.specs.Looks.{look_on}
 use Rattle.ace_chart_rows.specs.Fed.{HasFed, rule_of}
-use Rattle.ace_chart_rows.specs.Rows.{left_out, left_with, part_at, row_of, rows_with}
+use Rattle.ace_chart_rows.specs.Rows.{done_with, left_out, left_with, newest_with, part_at, row_of}
+use Rattle.ace_chart_rows.specs.Values.{told_on, values_of, values_with}
+use Rattle.ace_chart_rows.specs.declared.values.Told.{Told}
 use Rattle.ace_chart_rows.specs.declared.collect.Collected.{Collected}
 use Rattle.ace_chart_rows.specs.declared.collect.Stop.{Stop}
 use Rattle.ace_chart_rows.specs.declared.selection.Part.{Part}
@@ -18,7 +20,7 @@ use Rattle.ace_check.specs.declared.checker.Step.TheVariants.{Fine, Broken}
 use Rattle.ace_check.specs.declared.checker.Checker.{Checker}
 use Rattle.ace_event.specs.declared.event.Event.{Event}
 use Rattle.ace_event.specs.declared.header.Header.{Header}
-use Rattle.ace_model.specs.Trace.{Trace}
+use Rattle.ace_model.specs.Trace.{Trace, more}
 use Rattle.ace_model.specs.declared.breaks.Break.{Break}
 
 -- of the first n + 1 events the newest, and then those before it
@@ -53,14 +55,23 @@ left_few h [] line s = omega arith
 left_few h (e ∷ past) line s = left_with_few (left_out h past line s) (length past) (part_at h past line s e) (left_few h past line s)
 
 -- the event was added
-pub heard_fine : (h : Header) (past : Trace) (line : Option ℕ) (s : Selection) (e : Event) (c : Checker) (part : Part) (row : Row) (old new : Collected)
-    → part ≡ part_at h past line s e → row ≡ row_of h past line s e → length past < 2 ^ 64 - 2
-    → new.rows.items ≡ rows_with old.rows.items row part
+pub heard_fine : (h : Header) (past : Trace) (line : Option ℕ) (s : Selection) (e : Event) (c : Checker) (part : Part) (row : Row) (told : Told) (old new : Collected)
+    → part ≡ part_at h past line s e → row ≡ row_of h past line s e → told ≡ told_on h past line old.values.kept.items e → length past < 2 ^ 64 - 2
+    → new.done.items ≡ done_with old.done.items old.newest row part
+    → new.newest ≡ newest_with old.newest row part
     → (old.left_out < 2 ^ 64 - 1 → new.left_out ≡ left_with old.left_out part)
+    → new.values.kept.items ≡ values_with old.values.kept.items told
     → AreDrawn h past line s old → StandsWithin (2 ^ 64 - 1) c h (e ∷ past) None → HasHeard h past e line s c new None
-heard_fine h past line s e c part row old new is same few added counted before stands =
-    let low : old.left_out < 2 ^ 64 - 1 = omega (arith, few, before.1, left_few h past line s) in
-    (stands, (added ∙ rw (before.0, same, is) refl, counted low ∙ rw (before.1, is) refl))
+heard_fine h past line s e c part row told old new is same tells few done newest counted kept before stands =
+    let low : old.left_out < 2 ^ 64 - 1 = omega (arith, few, before.left_out, left_few h past line s) in (
+      stands,
+      record {
+        done = done ∙ rw (before.done, before.newest, same, is) refl;
+        newest = newest ∙ rw (before.newest, same, is) refl;
+        left_out = counted low ∙ rw (before.left_out, is) refl;
+        values = kept ∙ rw (tells, before.values) refl;
+      },
+    )
 
 pub heard_break : (h : Header) (past : Trace) (line : Option ℕ) (s : Selection) (e : Event) (c : Checker) (stop : Stop) (d : Collected)
     → HasFed h past e c (Some stop.rule) → stop.row ≡ row_of h past line s e
@@ -90,9 +101,10 @@ followed_to_break h events i d line s c r stop within (b, stands, broken, row, s
 
 -- the chart of what was followed
 pub chart_right : (h : Header) (events : List Event) (line : Option ℕ) (s : Selection) (c : Checker) (r : Collected) (chart : Chart) (stop : Option Stop)
-    → HasFollowed h events line s c r stop → chart.header ≡ h → chart.line ≡ line → chart.rows.items ≡ r.rows.items → chart.left_out ≡ r.left_out
+    → HasFollowed h events line s c r stop → chart.header ≡ h → chart.line ≡ line → chart.rows.items ≡ more r.done.items r.newest → chart.left_out ≡ r.left_out
     → chart.stop ≡ row_at_end stop → chart.rule ≡ rule_at_end stop
-    → ((most : ℕ) (past : Trace) (b : Option Break) → StandsWithin most c h past b → chart.last ≡ look_on h past line)
+    → ((most : ℕ) (past : Trace) (b : Option Break) → StandsWithin most c h past b → r.values.kept.items ≡ values_of h past line
+    → chart.last ≡ look_on h past line)
     → IsChartOf h events line s chart
 chart_right h events line s c r chart stop f header of_line rows left row rule last = record {
   past = f.past;
@@ -101,8 +113,8 @@ chart_right h events line s c r chart stop f header of_line rows left row rule l
   accepted = f.stands.tell.lines.accepted;
   header = header;
   of_line = of_line;
-  rows = rows ∙ f.drawn.0;
-  left_out = left ∙ f.drawn.1;
-  last = last (2 ^ 64 - 1) f.past f.broken f.stands;
+  rows = rows ∙ rw (f.drawn.done, f.drawn.newest) refl;
+  left_out = left ∙ f.drawn.left_out;
+  last = last (2 ^ 64 - 1) f.past f.broken f.stands f.drawn.values;
   ending = rw (row, rule) f.ending;
 }

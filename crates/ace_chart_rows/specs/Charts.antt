@@ -3,7 +3,8 @@ use Rattle.std.specs.Prelude.{◌≡◌, ℕ, ◌++◌, ◌-◌, ◌^◌, List, 
 use Rattle.ace_chart.specs.declared.rows.Chart.{Chart}
 use Rattle.ace_chart.specs.declared.rows.Row.{Row}
 use Rattle.ace_chart_rows.specs.Looks.{look_on}
-use Rattle.ace_chart_rows.specs.Rows.{left_out, row_of, rows_of}
+use Rattle.ace_chart_rows.specs.Rows.{done_of, left_out, newest_of, row_of, rows_of}
+use Rattle.ace_chart_rows.specs.Values.{values_of}
 use Rattle.ace_chart_rows.specs.declared.collect.Collected.{Collected}
 use Rattle.ace_chart_rows.specs.declared.collect.Stop.{Stop}
 use Rattle.ace_chart_rows.specs.declared.selection.Selection.{Selection}
@@ -48,10 +49,14 @@ abbrev pub rule_at_end : Option Stop → Option ℕ
 rule_at_end None = None
 rule_at_end (Some stop) = Some stop.rule
 
--- these are the rows of the trace, and so many events are left out behind them
-abbrev pub AreDrawn : Header → Trace → Option ℕ → Selection → Collected → Type 0
-AreDrawn h past line s d =
-    (d.rows.items ≡ rows_of h past line s) × (d.left_out ≡ left_out h past line s)
+-- these are the rows of the trace, so many events are left out behind them, and these are the
+-- values of its line
+pub record AreDrawn (h : Header) (past : Trace) (line : Option ℕ) (s : Selection)
+    (d : Collected) : Type 0 where
+  pub done : d.done.items ≡ done_of h past line s
+  pub newest : d.newest ≡ newest_of h past line s
+  pub left_out : d.left_out ≡ left_out h past line s
+  pub values : d.values.kept.items ≡ values_of h past line
 
 -- The checker stood for a trace of which these were the rows, and has heard an event more: where it
 -- breaks no rule, both stand for the longer trace; where it breaks one, its row and the least rule

@@ -1,5 +1,5 @@
 -- Which events of a line are drawn.
-use Rattle.std.specs.Prelude.{ℕ, ◌-◌, ◌^◌, ◌&&◌, Bool, true, if◌then◌else◌, List, Option, Some, None, nat_le, slice_get}
+use Rattle.std.specs.Prelude.{ℕ, ◌-◌, ◌^◌, ◌&&◌, ◌==◌, Bool, true, if◌then◌else◌, List, Option, Some, None, nat_le, slice_get}
 use Rattle.ace_chart_rows.specs.declared.selection.Part.{Part}
 use Rattle.ace_chart_rows.specs.declared.selection.Part.TheVariants.{Drawn, LeftOut, Elsewhere}
 use Rattle.ace_chart_rows.specs.declared.selection.Selection.{Selection}
@@ -9,6 +9,11 @@ use Rattle.ace_model.specs.Trace.{is_some_and, port_of}
 -- all of them
 abbrev pub whole_trace : Selection
 whole_trace = record { first = 1; last = 2 ^ 64 - 1; ports = None }
+
+-- the line of an event is asked for: every one where no line is
+abbrev pub is_asked : Option ℕ → Option ℕ → Bool
+is_asked None of_event = true
+is_asked (Some l) of_event = is_some_and of_event (λ k. k == l)
 
 -- the port is among those that are chosen
 abbrev pub is_chosen : List Bool → ℕ → Bool

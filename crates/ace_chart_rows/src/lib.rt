@@ -2,11 +2,13 @@
 //! by what the checker keeps of the trace.
 #![tactic(auto)]
 
+mod bursts;
 mod choose;
 mod collect;
 mod looks;
 mod selection;
 mod told;
+mod values;
 
 pub use choose::chosen_line;
 pub use collect::{ChartErr, chart_of};

@@ -1,6 +1,6 @@
 // Which events of a line are drawn.
 ghost use Rattle.std.specs.Prelude.{◌≡◌};
-ghost use Rattle.ace_chart_rows.specs.Selected.{is_chosen, is_of_ports, is_selected, part_of, whole_trace};
+ghost use Rattle.ace_chart_rows.specs.Selected.{is_asked, is_chosen, is_of_ports, is_selected, part_of, whole_trace};
 
 use ace_event::Event;
 use ace_model::port_of;
@@ -37,6 +37,17 @@ impl Selection {
             last: u64::MAX,
             ports: None,
         }
+    }
+}
+
+/// The line of an event is asked for.
+pub(crate) fn is_asked(line: Option<u32>, of_event: Option<u32>) -> bool
+    ensures { result ≡ is_asked line of_event }
+{
+    match (line, of_event) {
+        (None, _) => true,
+        (Some(_), None) => false,
+        (Some(line), Some(of_event)) => of_event == line,
     }
 }
 

@@ -1,9 +1,11 @@
 // What charts draw.
-use crate::traces::{second_barrier, stored, two_grants};
-use ace_chart::{Below, Chart, chart_text};
+use crate::traces::{second_barrier, stored, torn, two_grants};
+use ace_chart::{Below, Chart, chart_text, row_numbers};
 use ace_chart_rows::{ChartErr, Selection, chart_of, chosen_line};
 use ace_codes::LineState;
 use ace_event::{Event, Header};
+use ace_io::StdSource;
+use ace_side_facts::{Query, read_facts};
 use std::alloc::Global;
 use std::test::Fail;
 
@@ -58,16 +60,16 @@ fn drawn(
 #[test]
 fn draws_the_events_of_a_line(rt: HostRuntime) {
     let alloc = rt.alloc();
-    let line = [2, 3, 4, 5, 6, 7, 8, 9];
-    let all = [1, 2, 3, 4, 5, 6, 7, 8];
+    let line = [2, 3, 4, 8, 9, 0, 0, 0];
+    let all = [1, 2, 3, 4, 8, 9, 0, 0];
     let three = [1, 2, 3, 0, 0, 0, 0, 0];
     assert!(rt; drawn(alloc, &two_grants(), Some(64), 400) == Ok((three, 4)));
     assert!(rt; drawn(alloc, &two_grants(), Some(128), 400) == Ok(([0; 8], 4)));
     assert!(rt; drawn(alloc, &two_grants(), None, 3) == Ok((three, 4)));
     assert!(rt; drawn(alloc, &two_grants(), None, 2) == Err(ChartErr::TooManyRows));
-    assert!(rt; drawn(alloc, &stored(), Some(64), 8) == Ok((line, 0)));
-    assert!(rt; drawn(alloc, &stored(), Some(64), 7) == Err(ChartErr::TooManyRows));
-    assert!(rt; drawn(alloc, &stored(), None, 9) == Ok((all, 0)));
+    assert!(rt; drawn(alloc, &stored(), Some(64), 5) == Ok((line, 0)));
+    assert!(rt; drawn(alloc, &stored(), Some(64), 4) == Err(ChartErr::TooManyRows));
+    assert!(rt; drawn(alloc, &stored(), None, 6) == Ok((all, 0)));
     assert!(rt; drawn(alloc, &[], None, 0) == Ok(([0; 8], 0)));
 }
 
@@ -75,7 +77,7 @@ fn draws_the_events_of_a_line(rt: HostRuntime) {
 /// memory is behind then, and how many rows have a grant before their event.
 fn bars(chart: &Chart) -> ([LineState; 4], bool, usize) {
     let mut states = [LineState::I; 4];
-    for (place, row) in chart.rows.iter().skip(5).take(3).enumerate() {
+    for (place, row) in chart.rows.iter().skip(2).take(3).enumerate() {
         states[place] = row.look.states[0];
     }
     states[3] = chart.last.states[0];
@@ -103,7 +105,7 @@ fn bars_end_where_states_change(rt: HostRuntime) {
     let told = bars(&chart);
     drop(chart);
     let wanted = [LineState::I, LineState::I, LineState::UC, LineState::UD];
-    assert!(rt; told == (wanted, true, 5));
+    assert!(rt; told == (wanted, true, 2));
 }
 
 /// For each row of the chart how many events are left out before it, up to eight; 9 behind the
@@ -150,9 +152,9 @@ fn one_port(port: u8) -> [bool; 32] {
 #[test]
 fn draws_selected_events(rt: HostRuntime) {
     let alloc = rt.alloc();
-    let middle = ([4, 5, 6, 0, 0, 0, 0, 0], [2, 0, 0, 9, 9, 9, 9, 9], 3);
+    let middle = ([4, 0, 0, 0, 0, 0, 0, 0], [2, 9, 9, 9, 9, 9, 9, 9], 3);
     let front = ([2, 3, 0, 0, 0, 0, 0, 0], [0, 0, 9, 9, 9, 9, 9, 9], 6);
-    let all = ([2, 3, 4, 5, 6, 7, 8, 9], [1, 0, 0, 0, 0, 0, 0, 0], 0);
+    let all = ([2, 3, 4, 8, 9, 0, 0, 0], [1, 0, 0, 0, 0, 9, 9, 9], 0);
     let none = ([0; 8], [9; 8], 8);
     assert!(rt; selected(alloc, Some(64), &events(4, 6, None)) == Ok(middle));
     assert!(rt; selected(alloc, Some(64), &events(0, 3, Some(0))) == Ok(front));
@@ -182,14 +184,87 @@ fn has_selected(
         expected: b"UC",
         got: b"SD",
     };
-    let Ok(text) = chart_text(alloc, &chart, b"a&b.trace", b"verdict", &below) else {
+    let Ok(text) = chart_text(alloc, &chart, b"a&b.trace", b"verdict", &below, None) else {
         return Ok(false);
     };
+    Ok(has_parts(&text, parts))
+}
+
+/// The text is that of a picture, and has these parts.
+fn has_parts(text: &[u8], parts: &[&[u8]]) -> bool {
     let mut all = text.ends_with(b"</svg>\n");
     for part in parts {
         all = all && !part.is_empty() && text.windows(part.len()).any(|at| at == *part);
     }
-    Ok(all)
+    all
+}
+
+#[test]
+fn tells_values(rt: HostRuntime) -> Result<(), Fail> {
+    let later: [&[u8]; 4] = [
+        b">R 1-4/4 v0</text>\n",
+        b">R 1/4 v0 IsShared</text>\n",
+        b">D store v1</text>\n",
+        b"<text class=\"stop-label\" x=\"450\" y=\"366\">R 2/4 v1 IsShared</text>\n",
+    ];
+    let other: [&[u8]; 1] = [b">R 2/4 v? IsShared</text>\n"];
+    let all: [&[u8]; 2] = [b">R ReadOnce 1/4 IsShared</text>\n", b">D store</text>\n"];
+    assert!(rt; has(rt.alloc(), &torn(2), Some(64), &later)?);
+    assert!(rt; has(rt.alloc(), &torn(5), Some(64), &other)?);
+    assert!(rt; has(rt.alloc(), &torn(2), None, &all)?);
+    Ok(())
+}
+
+/// What a side file tells of the rows of the chart, or whether the picture with that has these
+/// parts.
+fn has_beside(alloc: Global, bytes: &[u8], parts: &[&[u8]]) -> Result<bool, Fail> {
+    let Ok(chart) = chart_of(alloc, HEADER, &stored(), Some(64), &Selection::whole(), 400) else {
+        return Ok(false);
+    };
+    let Ok(numbers) = row_numbers(alloc, &chart) else {
+        return Ok(false);
+    };
+    let query = Query {
+        events: numbers.as_slice(),
+        notes: &[],
+        lines: &[],
+    };
+    let mut source = StdSource::new(bytes);
+    let Ok(side) = read_facts(alloc, &mut source, &query) else {
+        return Ok(false);
+    };
+    let below = Below {
+        wrong: b"",
+        kept: b"",
+        expected: b"",
+        got: b"",
+    };
+    let Ok(text) = chart_text(alloc, &chart, b"t", b"v", &below, Some(&side)) else {
+        return Ok(false);
+    };
+    drop(side);
+    Ok(has_parts(&text, parts))
+}
+
+#[test]
+fn draws_what_a_side_file_tells(rt: HostRuntime) -> Result<(), Fail> {
+    let bytes = b"ACE SIDE 1\nUNIT ns\nPORT 00 cpu0.l2\nT 2 1200\nT 5 1236\nT 8 1250\nEND 9\n";
+    let parts: [&[u8]; 6] = [
+        b"viewBox=\"0 0 964 ",
+        b"<text class=\"time\" x=\"12\" y=\"100\">ns</text>\n\
+<text class=\"time\" x=\"12\" y=\"134\">1200</text>\n\
+<text class=\"time\" x=\"12\" y=\"158\">1200</text>\n\
+<text class=\"time\" x=\"12\" y=\"182\">1236</text>\n\
+<text class=\"time\" x=\"12\" y=\"206\">1250</text>\n\
+<text class=\"time\" x=\"12\" y=\"230\">1250</text>\n\
+<g transform=\"translate(84)\">\n",
+        b"<text class=\"kind\" x=\"150\" y=\"100\">cpu0.l2</text>\n",
+        b"<text class=\"kind\" x=\"550\" y=\"100\">ACE</text>\n",
+        b"</g>\n</g>\n<text class=\"wrong\"",
+        b">R 1-4/4 v0</text>\n",
+    ];
+    assert!(rt; has_beside(rt.alloc(), bytes, &parts)?);
+    Ok(())
 }
 
 #[test]
@@ -213,11 +288,15 @@ fn writes_svg(rt: HostRuntime) -> Result<(), Fail> {
 <rect class=\"stop\" x=\"345\" y=\"197\" width=\"10\" height=\"10\"/>\n\
 <text class=\"stop-beside\" x=\"366\" y=\"206\">G p1 ReadUnique</text>\n</g>\n",
     ];
-    let kept: [&[u8]; 4] = [
-        b"<text class=\"label\" x=\"250\" y=\"270\">RK ReadUnique UC</text>\n",
-        b"<title>port 0 has the line in UC</title>\n<rect class=\"UC\" x=\"141\" y=\"274\" width=\"18\" height=\"24\"/>\n",
-        b"<title>port 0 has the line in UD</title>\n<rect class=\"UD\" x=\"141\" y=\"298\" width=\"18\" height=\"24\"/>\n",
-        b"<rect class=\"behind\" x=\"746\" y=\"298\" width=\"8\" height=\"24\"/>\n",
+    let kept: [&[u8]; 7] = [
+        b"<g><title>event 4, line 6 of the trace, to event 7, line 9 of the trace</title>\n\
+<text class=\"number\" x=\"96\" y=\"182\">4-7</text>\n",
+        b"<text class=\"label\" x=\"250\" y=\"174\">R 1-4/4 v0</text>\n",
+        b"<text class=\"label\" x=\"250\" y=\"198\">RK ReadUnique UC</text>\n",
+        b"<text class=\"beside\" x=\"166\" y=\"230\">D store v1</text>\n",
+        b"<title>port 0 has the line in UC</title>\n<rect class=\"UC\" x=\"141\" y=\"202\" width=\"18\" height=\"24\"/>\n",
+        b"<title>port 0 has the line in UD</title>\n<rect class=\"UD\" x=\"141\" y=\"226\" width=\"18\" height=\"24\"/>\n",
+        b"<rect class=\"behind\" x=\"746\" y=\"226\" width=\"8\" height=\"24\"/>\n",
     ];
     assert!(rt; has(rt.alloc(), &two_grants(), Some(64), &refused)?);
     assert!(rt; has(rt.alloc(), &stored(), Some(64), &kept)?);
@@ -226,8 +305,8 @@ fn writes_svg(rt: HostRuntime) -> Result<(), Fail> {
     let gaps: [&[u8]; 3] = [
         b"<line class=\"gap\" x1=\"16\" y1=\"111\" x2=\"864\" y2=\"111\"/>\n\
 <text class=\"gap\" x=\"16\" y=\"121\">2 left out</text>\n<g><title>event 4, line 6",
-        b"<text class=\"gap\" x=\"16\" y=\"193\">3 left out</text>\n",
-        b"viewBox=\"0 0 880 382\"",
+        b"<text class=\"gap\" x=\"16\" y=\"145\">3 left out</text>\n",
+        b"viewBox=\"0 0 880 334\"",
     ];
     assert!(rt; has_selected(rt.alloc(), &stored(), Some(64), &selection, &gaps)?);
     assert!(rt;

@@ -60,8 +60,59 @@ pub(crate) fn stored() -> [Event; 9] {
             addr: 64,
             strobe: 1,
             x: false,
-            line: Line { words: [0; 4] },
+            line: Line {
+                words: [1 << 127, 0, 0, 0],
+            },
         },
+    ]
+}
+
+/// A transfer of the read of port 1, which isn't the last.
+fn transfer(word: u128) -> Event {
+    Event::R {
+        port: 1,
+        id: 0,
+        resp: 8,
+        last: false,
+        word,
+    }
+}
+
+/// A line that port 0 stores to in the midst of a read of port 1, whose second transfer has this
+/// word.
+pub(crate) fn torn(word: u128) -> [Event; 14] {
+    [
+        ar(0, 7),
+        g(0),
+        r(false),
+        r(false),
+        r(false),
+        r(true),
+        Event::Rk {
+            port: 0,
+            st: LineState::UC,
+        },
+        ar(1, 0),
+        g(1),
+        Event::Ac {
+            port: 0,
+            addr: 64,
+            snoop: 0,
+        },
+        Event::Cr {
+            port: 0,
+            resp: 24,
+            st: LineState::UC,
+        },
+        transfer(0),
+        Event::D {
+            port: 0,
+            addr: 64,
+            strobe: u64::MAX,
+            x: false,
+            line: Line { words: [2; 4] },
+        },
+        transfer(word),
     ]
 }
 

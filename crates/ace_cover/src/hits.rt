@@ -1,5 +1,5 @@
 // Counting.
-ghost use Rattle.std.specs.Prelude.{◌≡◌, ◌<◌, ◌+◌, ◌-◌, ◌^◌, ℕ, if◌then◌else◌, length, map, slice_index, slice_set};
+ghost use Rattle.std.specs.Prelude.{◌≡◌, ◌<◌, ◌≤◌, ◌+◌, ◌-◌, ◌^◌, ◌||◌, ℕ, if◌then◌else◌, length, map, slice_index, slice_set, take};
 ghost use Rattle.ace_cover.specs.Counts.{has_point};
 ghost use Rattle.ace_model.specs.Trace.{is_some_and};
 ghost use Rattle.ace_points.specs.Same.{same_point};
@@ -25,14 +25,22 @@ fn has_point(shown: &[Option<Point>], point: &Point) -> bool
     shown.iter().any(|one| is_point(one, point))
 }
 
-/// The event shows the point.
-#[tactic(auto, using(crate::proofs::Counting::among_all))]
-fn shows(shown: &PointsShown, point: &Point) -> bool
-    ensures { result ≡ has_point (points_of shown.now) point.now }
+/// Adds the points of a list to those that were found, which are so many; how many they are then.
+fn gather(found: &mut [Option<Point>], count: usize, shown: &[Option<Point>]) -> usize
+    requires { count + length shown.now ≤ length found.old }
+    ensures among { (p : Shown) → has_point (take result found.new) p
+        ≡ (has_point (take count found.old) p || has_point shown.now p) }
+    ensures few { result ≤ count + length shown.now }
+    ensures size { length found.new ≡ length found.old }
 {
-    has_point(&shown.rows, point)
-        || has_point(&shown.rules, point)
-        || has_point(&shown.situations, point)
+    let mut count = count;
+    for point in shown {
+        if point.is_some() {
+            found[count] = *point;
+            count += 1;
+        }
+    }
+    count
 }
 
 /// One more, where it is so.
@@ -54,7 +62,22 @@ fn count_at(hits: &mut Vec<u64>, place: usize, is_hit: bool)
     }
 }
 
-/// Counts the points that an event shows: `hits` has the count of each point, in their order.
+/// Counts these points: `hits` has the count of each point, in their order.
+fn count_found(points: &[Point], hits: &mut Vec<u64>, found: &[Option<Point>])
+    ensures { (before after : Shown → ℕ) → hits.old.items ≡ map before points.now
+        → ((p : Shown) → before p < 2 ^ 64 - 1)
+        → ((p : Shown) → after p
+        ≡ (if has_point found.now p then before p + 1 else before p))
+        → hits.new.items ≡ map after points.now }
+{
+    for place in 0..points.len() {
+        count_at(hits, place, has_point(found, &points[place]));
+    }
+}
+
+/// Counts the points that an event shows. Most places of its lists are empty: those that aren't are
+/// put together first.
+#[tactic(auto, using(crate::proofs::Counting::among_all))]
 pub(crate) fn count_shown(points: &[Point], hits: &mut Vec<u64>, shown: &PointsShown)
     ensures { (before after : Shown → ℕ) → hits.old.items ≡ map before points.now
         → ((p : Shown) → before p < 2 ^ 64 - 1)
@@ -62,7 +85,9 @@ pub(crate) fn count_shown(points: &[Point], hits: &mut Vec<u64>, shown: &PointsS
         ≡ (if has_point (points_of shown.now) p then before p + 1 else before p))
         → hits.new.items ≡ map after points.now }
 {
-    for place in 0..points.len() {
-        count_at(hits, place, shows(shown, &points[place]));
-    }
+    let mut found = [None; 18];
+    let rows = gather(&mut found, 0, &shown.rows);
+    let rules = gather(&mut found, rows, &shown.rules);
+    let count = gather(&mut found, rules, &shown.situations);
+    count_found(points, hits, &found[..count]);
 }

@@ -9,6 +9,7 @@ use ace_points::{
     start_points, transaction_points, update_points, write_end_points,
 };
 use std::alloc::Global;
+use std::marker::Model;
 
 /// How many traces were accepted, how many events they have, and how many of these show each point.
 #[derive(Drop)]
@@ -17,6 +18,18 @@ pub struct Totals {
     pub events: u64,
     /// In the order of all points.
     pub hits: Vec<u64>,
+}
+
+impl Model for Totals {
+    ghost use Rattle.ace_cover.specs.Tallies.{Tally};
+
+    ghost Value = { Tally };
+
+    ghost view = { λ t. record {
+      traces = t.traces;
+      events = t.events;
+      hits = t.hits.items;
+    } };
 }
 
 /// Adds the points at the end.
@@ -89,8 +102,8 @@ pub fn add_hits(total: &mut Vec<u64>, hits: &[u64])
 }
 
 impl Totals {
-    ghost use Rattle.std.specs.Prelude.{◌≡◌, map, IfOk};
-    ghost use Rattle.ace_cover.specs.Counts.{sum_of, sums};
+    ghost use Rattle.std.specs.Prelude.{◌≡◌, IfOk};
+    ghost use Rattle.ace_cover.specs.Tallies.{both, is_below, no_tally, with_trace};
 
     /// Of no trace.
     ///
@@ -98,9 +111,7 @@ impl Totals {
     ///
     /// `NoMemory` where there is none for the counts.
     pub fn none(alloc: Global, points: &[Point]) -> Result<Totals, NoMemory>
-        ensures traces { IfOk result (λ t. t.traces ≡ 0) }
-        ensures events { IfOk result (λ t. t.events ≡ 0) }
-        ensures hits { IfOk result (λ t. t.hits.items ≡ map (λ _. 0) points.now) }
+        ensures { IfOk result (λ t. t ≡ no_tally points.now) }
     {
         let hits = no_hits(alloc, points)?;
         Ok(Totals {
@@ -112,12 +123,27 @@ impl Totals {
 
     /// With one more accepted trace, which has so many events, and these counts.
     pub fn add(&mut self, events: u64, hits: &[u64])
-        ensures traces { self.new.traces ≡ sum_of self.old.traces 1 }
-        ensures events { self.new.events ≡ sum_of self.old.events events }
-        ensures hits { self.new.hits.items ≡ sums self.old.hits.items hits.now }
+        ensures { self.new ≡ with_trace self.old events hits.now }
     {
         self.traces = self.traces.saturating_add(1);
         self.events = self.events.saturating_add(events);
         add_hits(&mut self.hits, hits);
+    }
+
+    /// With those of other traces.
+    pub fn add_all(&mut self, other: &Totals)
+        ensures { self.new ≡ both self.old other.now }
+    {
+        self.traces = self.traces.saturating_add(other.traces);
+        self.events = self.events.saturating_add(other.events);
+        add_hits(&mut self.hits, other.hits.as_slice());
+    }
+
+    /// Whether fewer than so many of a hundred points were hit.
+    pub fn is_below(&self, percent: u8) -> bool
+        ensures { result ≡ is_below percent self.now }
+    {
+        let hit = self.hits.iter().filter(|count| **count > 0).count();
+        (hit as u128) * 100 < u128::from(percent) * (self.hits.len() as u128)
     }
 }

@@ -1,7 +1,8 @@
 // What is counted of traces, and what is told of that.
 
-use ace_cover::{Totals, all_points, cover_within, is_below, no_hits, push_json, push_table};
+use ace_cover::{Listing, Totals, all_points, cover_within, no_hits, push_json, push_table};
 use ace_io::MemSource;
+use ace_parts::{CountsErr, read_counts};
 use ace_verdict::{Limits, Verdict};
 use std::alloc::Global;
 use std::test::Fail;
@@ -44,7 +45,7 @@ fn totals_of(alloc: Global, texts: &[&str]) -> Result<Totals, Fail> {
 fn is_json(alloc: Global, texts: &[&str], wanted: &str) -> Result<bool, Fail> {
     let totals = totals_of(alloc, texts)?;
     let mut text = Vec::new(alloc);
-    push_json(&mut text, &totals)?;
+    push_json(alloc, &mut text, &totals)?;
     let holds = text.as_slice() == wanted.as_bytes();
     Ok(holds)
 }
@@ -57,13 +58,13 @@ fn accepted_traces_are_counted(rt: HostRuntime) -> Result<(), Fail> {
 
 /// Whether the table of these traces begins so, and fewer of a hundred points than so many were
 /// hit.
-fn has_table(alloc: Global, texts: &[&str], wanted: &str, percent: u64) -> Result<bool, Fail> {
+fn has_table(alloc: Global, texts: &[&str], wanted: &str, percent: u8) -> Result<bool, Fail> {
     let totals = totals_of(alloc, texts)?;
     let mut text = Vec::new(alloc);
-    push_table(&mut text, &totals, false)?;
+    push_table(alloc, &mut text, &totals, Listing::Few)?;
     let holds = text.as_slice().starts_with(wanted.as_bytes())
-        && is_below(&totals, percent)
-        && !is_below(&totals, percent.wrapping_sub(1));
+        && totals.is_below(percent)
+        && !totals.is_below(percent.wrapping_sub(1));
     Ok(holds)
 }
 
@@ -83,5 +84,98 @@ fn a_table_counts_points(rt: HostRuntime) -> Result<(), Fail> {
         all                                              5   400      1%\n\
         \nNever hit\n  transactions (42)\n    ACE ReadNoSnoop\n";
     assert!(rt; has_table(rt.alloc(), &[GIVES_UP], wanted, 2)?);
+    Ok(())
+}
+
+/// Whether the table of this trace ends so.
+fn table_ends(alloc: Global, trace: &str, listing: Listing, end: &str) -> Result<bool, Fail> {
+    let totals = totals_of(alloc, &[trace])?;
+    let mut text = Vec::new(alloc);
+    push_table(alloc, &mut text, &totals, listing)?;
+    let holds = text.as_slice().ends_with(end.as_bytes());
+    Ok(holds)
+}
+
+#[test]
+fn a_table_names_points(rt: HostRuntime) -> Result<(), Fail> {
+    let more = "    a WriteUnique is merged into a passed dirty line\n\
+        \x20   a read goes on while its line is stored to\n\
+        \x20   .. and 18 more: acetool cover --all\n";
+    let missing = "    memory opens with other than zeros\n\
+        \x20   sixteen transactions of a port are outstanding\n";
+    let counts = "           0  memory opens with other than zeros\n\
+        \x20          0  sixteen transactions of a port are outstanding\n";
+    assert!(rt; table_ends(rt.alloc(), GIVES_UP, Listing::Few, more)?);
+    assert!(rt; table_ends(rt.alloc(), GIVES_UP, Listing::All, missing)?);
+    assert!(rt; table_ends(rt.alloc(), GIVES_UP, Listing::Counts, counts)?);
+    Ok(())
+}
+
+/// Whether the text tells counts of so many traces and events, and is what is written of them.
+fn is_read(alloc: Global, text: &str, traces: u64, events: u64) -> Result<bool, Fail> {
+    match read_counts(alloc, text.as_bytes()) {
+        Ok(totals) => {
+            let mut written = Vec::new(alloc);
+            push_json(alloc, &mut written, &totals)?;
+            let same = written.as_slice() == text.as_bytes();
+            Ok(same && totals.traces == traces && totals.events == events)
+        }
+        Err(_) => Ok(false),
+    }
+}
+
+/// Whether this line of the text is the first that tells no counts.
+fn is_wrong(alloc: Global, text: &str, line: u64) -> bool {
+    match read_counts(alloc, text.as_bytes()) {
+        Ok(_) => false,
+        Err(error) => error == CountsErr::Wrong { line },
+    }
+}
+
+#[test]
+fn counts_are_read_back(rt: HostRuntime) -> Result<(), Fail> {
+    assert!(rt; is_read(rt.alloc(), GIVEN_UP, 2, 16)?);
+    Ok(())
+}
+
+#[test]
+fn other_texts_tell_no_counts(rt: HostRuntime) -> Result<(), Fail> {
+    let other = "{\"format\":\"ace cover 2\",\"traces\":2,\"events\":16,\"hits\":{}}\n";
+    for text in ["", "\n", "{}", other] {
+        assert!(rt; is_wrong(rt.alloc(), text, 1));
+    }
+    Ok(())
+}
+
+/// Whether the counts of the text, added to themselves, are these.
+fn is_sum(alloc: Global, text: &str, wanted: &str) -> Result<bool, Fail> {
+    let Ok(mut totals) = read_counts(alloc, text.as_bytes()) else {
+        return Ok(false);
+    };
+    let Ok(more) = read_counts(alloc, text.as_bytes()) else {
+        return Ok(false);
+    };
+    totals.add_all(&more);
+    let mut written = Vec::new(alloc);
+    push_json(alloc, &mut written, &totals)?;
+    let same = written.as_slice() == wanted.as_bytes();
+    Ok(same)
+}
+
+const ONCE: &str = "{\"format\":\"ace cover 1\",\"traces\":1,\"events\":3,\"hits\":{\
+    \"transactions\":{},\"start states\":{},\"ends of reads\":{},\"ends of writes\":{},\
+    \"snoop answers\":{},\"snoop answers with an update outstanding\":{},\
+    \"silent transitions\":{},\"rules in earnest\":{\"K40\":3},\
+    \"situations\":{\"an operation fails\":1,\"an operation is skipped\":2}}}\n";
+
+const TWICE: &str = "{\"format\":\"ace cover 1\",\"traces\":2,\"events\":6,\"hits\":{\
+    \"transactions\":{},\"start states\":{},\"ends of reads\":{},\"ends of writes\":{},\
+    \"snoop answers\":{},\"snoop answers with an update outstanding\":{},\
+    \"silent transitions\":{},\"rules in earnest\":{\"K40\":6},\
+    \"situations\":{\"an operation fails\":2,\"an operation is skipped\":4}}}\n";
+
+#[test]
+fn counts_are_added(rt: HostRuntime) -> Result<(), Fail> {
+    assert!(rt; is_sum(rt.alloc(), ONCE, TWICE)?);
     Ok(())
 }

@@ -16,7 +16,7 @@ use Rattle.ace_event.specs.declared.event.Event.TheVariants.{Ar, R, Rk, Aw, W, B
 use Rattle.ace_event.specs.declared.header.Header.{Header}
 use Rattle.ace_event.specs.declared.line.Line.{Line}
 use Rattle.ace_expected.specs.declared.wanted.Expectation.{Expectation}
-use Rattle.ace_expected.specs.declared.wanted.Expectation.TheVariants.{State, Answer, Number, Data}
+use Rattle.ace_expected.specs.declared.wanted.Expectation.TheVariants.{State, Answer, Number, Sent, Data}
 use Rattle.ace_expected.specs.declared.wanted.StateTable.TheVariants.{ReadStart, WriteStart, ReadEnd, WriteEnd, Silent, Load, Store}
 use Rattle.ace_expected.specs.declared.wanted.Width.TheVariants.{Digit, Strobe, Word}
 use Rattle.ace_model.specs.Copies.{copy_of, word_of}
@@ -148,6 +148,12 @@ of_reply h past x word letter.A = Some (Number Word 0 word)
 of_reply h past x word letter.B = reply_word h past x word
 of_reply h past x word _ = None
 
+-- K17: whether the beat is the last; of its word what came, as the copy at the answer isn't told
+abbrev pub of_cd : Trace → ℕ → Bool → ℕ → Letter → Option Expectation
+of_cd past p last word letter.B = last_beat (next_sent_beat past p == 3) last
+of_cd past p last word letter.C = Some (Sent word)
+of_cd past p last word _ = None
+
 -- ---- data
 
 -- K25: what is due to be written to memory, where it is known
@@ -207,8 +213,7 @@ expectation h past (Ac p addr snoop) k c =
     only ((k == 13) && is_c c) (snoop_code (granted h past addr) snoop)
 expectation h past (Cr p resp st) k c =
     only ((k == 15) || (k == 16)) (answer h past p (answered past p) (k == 16) resp st)
-expectation h past (Cd p last word) k c =
-    only ((k == 17) && is_b c) (last_beat (next_sent_beat past p == 3) last)
+expectation h past (Cd p last word) k c = only (k == 17) (of_cd past p last word c)
 expectation h past (M p c i line) k l =
     only (k == 25) (memory_data h past (outstanding h past p c i) line)
 expectation h past (S p addr st) k c =

@@ -5,7 +5,7 @@ use Rattle.ace_codes.specs.declared.state.LineState.TheVariants.{I, UC, UD, SC, 
 use Rattle.ace_event.specs.Text.{hex_text, line_digits, state_text}
 use Rattle.ace_expected.specs.Tables.{allows}
 use Rattle.ace_expected.specs.declared.wanted.Expectation.{Expectation}
-use Rattle.ace_expected.specs.declared.wanted.Expectation.TheVariants.{State, Answer, Number, Data}
+use Rattle.ace_expected.specs.declared.wanted.Expectation.TheVariants.{State, Answer, Number, Sent, Data}
 use Rattle.ace_expected.specs.declared.wanted.StateTable.{StateTable}
 use Rattle.ace_expected.specs.declared.wanted.Width.{Width}
 use Rattle.ace_expected.specs.declared.wanted.Width.TheVariants.{Digit, Strobe, Word}
@@ -42,11 +42,12 @@ digits_of Digit = 1
 digits_of Strobe = 4
 digits_of Word = 32
 
--- what is expected: nothing where no value is right
+-- what is expected: nothing where no value is right, or none can be told
 abbrev pub expected_text : Expectation → List ℕ
 expected_text (State table got) = states_text table
 expected_text (Answer kind held update resp next) = add_rows [] (snoop_rows kind held update)
 expected_text (Number width expected got) = hex_text (digits_of width) expected
+expected_text (Sent got) = []
 expected_text (Data expected got) = line_digits expected
 
 -- what was got, as it stands in the trace
@@ -54,16 +55,16 @@ abbrev pub got_text : Expectation → List ℕ
 got_text (State table got) = state_text got
 got_text (Answer kind held update resp next) = row_text (record { resp = resp; next = next })
 got_text (Number width expected got) = hex_text (digits_of width) got
+got_text (Sent got) = hex_text 32 got
 got_text (Data expected got) = line_digits got
 
 unfoldable pub expected_line : List ℕ → List ℕ
-expected_line text = codes "  expected  " ++ text ++ codes "\n"
+expected_line text =
+    if length text == 0 then [] else codes "  expected  " ++ text ++ codes "\n"
 
 unfoldable pub got_line : List ℕ → List ℕ
 got_line text = codes "  got       " ++ text ++ codes "\n"
 
--- both lines; none where no value is right
+-- both lines; that of what was got alone where nothing is told of what is expected
 unfoldable pub lines_text : Expectation → List ℕ
-lines_text x =
-    if length (expected_text x) == 0 then []
-    else expected_line (expected_text x) ++ got_line (got_text x)
+lines_text x = expected_line (expected_text x) ++ got_line (got_text x)

@@ -13,7 +13,7 @@ ghost use Rattle.ace_expected.specs.Expected.{expectation, is_a, is_b, is_c, of_
 
 use crate::states::{answer, read_end, start, state_of, write_end};
 use crate::values::{
-    copied_word, last_beat, memory_data, number, of_reply, of_w, read_last, snoop_code,
+    copied_word, memory_data, number, of_cd, of_reply, of_w, read_last, snoop_code,
 };
 use crate::wanted::{Expectation, StateTable, Width};
 use ace_clauses::Letter;
@@ -158,10 +158,9 @@ pub fn expectation(
             rule == 15 || rule == 16,
             answer(ports, lines, port, rule == 16, resp, st),
         ),
-        Event::Cd { port, last, .. } => only(
-            rule == 17 && is_b(letter),
-            last_beat(ports.next_sent_beat(port) == 3, last),
-        ),
+        Event::Cd { port, last, word } => {
+            only(rule == 17, of_cd(ports, port, last, word, letter))
+        }
         Event::M {
             port,
             chan,

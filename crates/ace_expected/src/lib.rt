@@ -11,4 +11,5 @@ mod wanted;
 
 pub use clauses::expectation;
 pub use text::{expected_text, got_text, push_expectation};
+pub use values::word_of;
 pub use wanted::{Expectation, StateTable, Width};

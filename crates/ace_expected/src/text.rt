@@ -171,7 +171,7 @@ fn row_text(alloc: Global, row: &Row) -> Result<Vec<u8>, NoMemory>
     Ok(words)
 }
 
-/// What is expected: nothing where no value is right.
+/// What is expected: nothing where no value is right, or none can be told.
 ///
 /// # Errors
 ///
@@ -192,6 +192,7 @@ pub fn expected_text(alloc: Global, x: &Expectation) -> Result<Vec<u8>, NoMemory
             expected,
             ..
         } => number_text(alloc, width, expected),
+        Expectation::Sent { .. } => Ok(Vec::new(alloc)),
         Expectation::Data { expected, .. } => data_text(alloc, &expected),
     }
 }
@@ -208,15 +209,19 @@ pub fn got_text(alloc: Global, x: &Expectation) -> Result<Vec<u8>, NoMemory>
         Expectation::State { got, .. } => state_text(alloc, got),
         Expectation::Answer { resp, next, .. } => row_text(alloc, &Row { resp, next }),
         Expectation::Number { width, got, .. } => number_text(alloc, width, got),
+        Expectation::Sent { got } => number_text(alloc, Width::Word, got),
         Expectation::Data { got, .. } => data_text(alloc, &got),
     }
 }
 
-/// Adds the line of what is expected.
+/// Adds the line of what is expected, if anything is told of that.
 #[tactic(auto, unfolding(crate::specs::Texts::expected_line))]
 fn push_expected(text: &mut Vec<u8>, words: &[u8]) -> Result<(), NoMemory>
     ensures { OnOk result (text.new.items ≡ text.old.items ++ expected_line words.now) }
 {
+    if words.is_empty() {
+        return Ok(());
+    }
     push(text, b"  expected  ")?;
     push(text, words)?;
     push(text, b"\n")
@@ -232,7 +237,7 @@ fn push_got(text: &mut Vec<u8>, words: &[u8]) -> Result<(), NoMemory>
     push(text, b"\n")
 }
 
-/// Adds both lines; none where no value is right.
+/// Adds both lines; that of what was got alone where nothing is told of what is expected.
 ///
 /// # Errors
 ///
@@ -242,9 +247,6 @@ pub fn push_expectation(alloc: Global, text: &mut Vec<u8>, x: &Expectation) -> R
     ensures { OnOk result (text.new.items ≡ text.old.items ++ lines_text x.now) }
 {
     let expected = expected_text(alloc, x)?;
-    if expected.is_empty() {
-        return Ok(());
-    }
     let got = got_text(alloc, x)?;
     push_expected(text, expected.as_slice())?;
     push_got(text, got.as_slice())

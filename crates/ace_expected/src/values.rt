@@ -11,7 +11,7 @@ ghost use Rattle.ace_model.specs.WriteRules.{data_of};
 ghost use Rattle.ace_model.specs.Writes.{next_write};
 ghost use Rattle.ace_portck.specs.Stands.{Stands as PortsTell};
 ghost use Rattle.ace_portck.specs.Targets.{Recording, data_of_write, progress_of};
-ghost use Rattle.ace_expected.specs.Expected.{copied_word, due_data, flag, last_beat, memory_data, of_reply, of_w, read_last, read_last_of, reply_word, reply_word_of, sent_word, snoop_code, snoop_code_of};
+ghost use Rattle.ace_expected.specs.Expected.{copied_word, due_data, flag, last_beat, memory_data, of_cd, of_reply, of_w, read_last, read_last_of, reply_word, reply_word_of, sent_word, snoop_code, snoop_code_of};
 
 use crate::wanted::{Expectation, Width};
 use ace_clauses::Letter;
@@ -48,7 +48,7 @@ pub(crate) fn last_beat(expected: bool, got: bool) -> Option<Expectation>
 }
 
 /// Word k of the line, from 0; 0 where k is above 3.
-fn word_of(line: &Line, k: u8) -> u128
+pub fn word_of(line: &Line, k: u8) -> u128
     ensures { result ≡ word_of line.now k }
 {
     match line.words.get(usize::from(k)) {
@@ -100,6 +100,24 @@ pub(crate) fn of_w(
         Letter::B => last_beat(ports.next_write_beat(port) == 3, last),
         Letter::C => number(Width::Strobe, 0xffff, u128::from(strb)),
         Letter::D => sent_word(ports, lines, port, word),
+        _ => None,
+    }
+}
+
+/// What the clause of K17 expects of a CD.
+pub(crate) fn of_cd(
+    ports: &PortCheck,
+    port: u8,
+    last: bool,
+    word: u128,
+    letter: Letter,
+) -> Option<Expectation>
+    ensures { (r : Recording) → PortsTell ports.now r
+        → result ≡ of_cd r.past port last word letter }
+{
+    match letter {
+        Letter::B => last_beat(ports.next_sent_beat(port) == 3, last),
+        Letter::C => Some(Expectation::Sent { got: word }),
         _ => None,
     }
 }

@@ -70,6 +70,10 @@ pub enum Expectation {
         expected: u128,
         got: u128,
     },
+    /// A word of snoop data. What the port had when it answered the snoop isn't told.
+    Sent {
+        got: u128,
+    },
     /// The data of a line, and those that there are.
     Data {
         expected: Line,

@@ -14,13 +14,21 @@ use Rattle.ace_explain_json.specs.Members.{address_json, kind_in, quoted, quoted
 use Rattle.ace_explanation.specs.Refusals.{kept_sentence, title, wrong_sentence}
 use Rattle.ace_explanation.specs.declared.refusal.Refusal.{Refusal}
 use Rattle.ace_event_words.specs.declared.transfers.Transfers.{Transfers}
+use Rattle.ace_clauses.specs.declared.letters.Letter.{Letter}
 use Rattle.ace_journal.specs.LedTexts.{transfers_of}
+use Rattle.ace_journal.specs.Marks.{looks_for, mark_by, port_of as deed_port}
+use Rattle.ace_journal.specs.Rows.{earlier_than}
+use Rattle.ace_journal.specs.declared.looks.Looks.{Looks}
 use Rattle.ace_journal.specs.declared.led.Led.{Led}
 use Rattle.ace_journal.specs.declared.rows.Row.{Row}
 use Rattle.ace_model.specs.Trace.{port_of}
 use Rattle.ace_model.specs.Transactions.{is_ace}
+use Rattle.ace_origins.specs.Texts.{origin_words}
+use Rattle.ace_origins.specs.declared.origins.Origin.{Origin}
 use Rattle.ace_pages.specs.Pages.{page_name}
 use Rattle.ace_portck.specs.declared.target.Progress.{Progress}
+use Rattle.ace_side_facts.specs.Facts.{time_in}
+use Rattle.ace_side_facts.specs.declared.facts.SideFacts.{SideFacts}
 
 -- the line of the trace, which has no column where an event breaks a rule, and the event
 unfoldable pub place_json : ℕ → List ℕ
@@ -49,18 +57,26 @@ event_json r =
     ++ codes ",\"kind\":" ++ quoted_if (kind_in r.led.own.deed)
     ++ codes ",\"address\":" ++ address_json r.led.line
 
--- what the clause expects, and what it got: nothing where no value is right
+-- what the clause expects, and what it got: null where it expects no value, and the first of them
+-- where nothing is told of that
 unfoldable pub no_values : List ℕ
 no_values = codes ",\"expected\":null,\"got\":null"
 
+unfoldable pub told_json : List ℕ → List ℕ
+told_json text = if length text == 0 then codes "null" else quoted text
+
 unfoldable pub both_json : List ℕ → List ℕ → List ℕ
 both_json expected got =
-    if length expected == 0 then no_values
-    else codes ",\"expected\":" ++ quoted expected ++ codes ",\"got\":" ++ quoted got
+    codes ",\"expected\":" ++ told_json expected ++ codes ",\"got\":" ++ quoted got
 
 abbrev pub values_json : Option Expectation → List ℕ
 values_json None = no_values
 values_json (Some x) = both_json (expected_text x) (got_text x)
+
+-- where the word stands that came
+unfoldable pub note_json : Option Origin → List ℕ
+note_json None = codes "null"
+note_json (Some o) = quoted (origin_words o)
 
 -- ---- what led to the event
 
@@ -77,26 +93,59 @@ words_json transfers row = quoted (deed_words transfers row.deed)
 unfoldable pub what_json : Row → List ℕ
 what_json row = codes ",\"what\":" ++ record_json row.deed
 
-unfoldable pub no_time : List ℕ
-no_time = codes ",\"time\":null}"
+-- its marks, of which there are at most two
+unfoldable pub second_json : List ℕ → List ℕ → List ℕ
+second_json first second =
+    if length second == 0 then []
+    else (if length first == 0 then [] else codes ",") ++ quoted second
+
+unfoldable pub marks_json : List ℕ → List ℕ → List ℕ
+marks_json first second =
+    codes ",\"marks\":[" ++ (if length first == 0 then [] else quoted first)
+    ++ second_json first second ++ codes "]"
 
 unfoldable pub text_json : Transfers → Row → List ℕ
-text_json transfers row = codes ",\"text\":" ++ words_json transfers row ++ no_time
+text_json transfers row = codes ",\"text\":" ++ words_json transfers row
 
--- a row, which tells of so many transfers
-unfoldable pub row_json : Transfers → Row → List ℕ
-row_json transfers row = numbers_json row ++ what_json row ++ text_json transfers row
+-- the time of its last event, if that is known
+unfoldable pub row_time_json : SideFacts → Row → List ℕ
+row_time_json f row = codes ",\"time\":" ++ number_json (time_in f row.last) ++ codes "}"
 
--- the rows, of which the newest stands first here and is the last in the text, each with a comma
-abbrev pub rows_json : List Row → List ℕ
-rows_json [] = []
-rows_json (row ∷ rows) = rows_json rows ++ row_json (transfers_of row) row ++ codes ","
+-- a row with these marks, which tells of so many transfers
+unfoldable pub row_json : SideFacts → List ℕ → List ℕ → Transfers → Row → List ℕ
+row_json f first second transfers row =
+    numbers_json row ++ what_json row ++ marks_json first second ++ text_json transfers row
+    ++ row_time_json f row
 
--- what led to the event, and the event itself; nothing where nothing led there
-unfoldable pub evidence_json : Led → List ℕ
-evidence_json d =
+-- the row, behind which these newer ones stand, with its marks and a comma
+unfoldable pub marked_json : SideFacts → Looks → ℕ → List Row → Row → List ℕ
+marked_json f looks port newer row =
+    row_json f (mark_by looks.first port newer row) (mark_by looks.second port newer row)
+    (transfers_of row) row ++ codes ","
+
+-- the rows that have so many newer ones, of which the newest stands first here and is the last in
+-- the text
+abbrev pub rows_json : SideFacts → Looks → ℕ → List Row → ℕ → List Row → List ℕ
+rows_json f looks port all newer [] = []
+rows_json f looks port all newer (row ∷ rows) =
+    rows_json f looks port all (newer + 1) rows ++ marked_json f looks port (take newer all) row
+
+-- how many earlier events of the line there are than those of the rows
+abbrev pub earlier_in : Led → ℕ
+earlier_in d = earlier_than (take d.count d.rows)
+
+unfoldable pub earlier_json : ℕ → List ℕ
+earlier_json count = codes ",\"earlier\":" ++ decimal count
+
+-- what led to the event, which breaks this clause, and the event itself; nothing where nothing led
+-- there
+unfoldable pub evidence_json : SideFacts → ℕ → Letter → Led → List ℕ
+evidence_json f rule letter d =
     if d.count == 0 then codes "[]"
-    else codes "[" ++ rows_json (take d.count d.rows) ++ row_json d.transfers d.own ++ codes "]"
+    else codes "["
+    ++ rows_json f (looks_for d.line rule letter) (deed_port d.own.deed) (take d.count d.rows) 0
+    (take d.count d.rows)
+    ++ row_json f [] [] d.transfers d.own ++ codes "]"
 
 -- ---- what there was of the line
 

@@ -9,5 +9,5 @@ mod outcome;
 mod places;
 mod values;
 
-pub use object::{explanation_json, no_memory_json, plain_json};
+pub use object::{explanation_json, no_memory_json, plain_json, unfinished_json};
 pub use outcome::outcome_of_verdict;

@@ -77,7 +77,7 @@ breaks_at : (limits : Limits) (bytes : List ℕ) (h : Header) (past : Trace) (ev
 breaks_at limits bytes h past event left left' (Other v) taken stops other s = other
 breaks_at limits bytes h past event left left' (Malformed b) taken stops breaks s = absurd breaks
 breaks_at limits bytes h past event left left' (Accepted events outstanding) taken stops breaks s = absurd breaks
-breaks_at limits bytes h past event left left' (Refused r) taken stops (same_header, same_event, clause, expected, before, led) s =
+breaks_at limits bytes h past event left left' (Refused r) taken stops (same_header, same_event, clause, expected, origin, before, led) s =
     let text : trace_text h (reverse (event ∷ past)) ≡ trace_text h (reverse past) ++ line_text (event_text h.version event) =
     ap (trace_text h) (reverse-append (event ∷ []) past) ∙ trace_text-more h (reverse past) event in
     rw (same_header, same_event) record {
@@ -89,6 +89,7 @@ breaks_at limits bytes h past event left left' (Refused r) taken stops (same_hea
       expected = expected;
       before = before;
       led = led;
+      origin = origin;
     }
 
 -- what is said of it is right
@@ -108,7 +109,7 @@ pub stop_line : (lines events : ℕ) (h : Header) (past : Trace) (event : Event)
 stop_line lines events h past event (Other v) counted room header readable stops other = tt
 stop_line lines events h past event (Malformed b) counted room header readable stops breaks = tt
 stop_line lines events h past event (Accepted n outstanding) counted room header readable stops breaks = tt
-stop_line lines events h past event (Refused r) counted room header readable stops (same_header, same_event, clause, expected, before, led) = record {
+stop_line lines events h past event (Refused r) counted room header readable stops (same_header, same_event, clause, expected, origin, before, led) = record {
   header = rw same_header header;
   event = rw (same_header, same_event) readable;
   few = omega (arith, counted, room, stops.0);

@@ -14,6 +14,7 @@ use Rattle.ace_malformed.specs.Cut.{IsLineOf}
 use Rattle.ace_malformed.specs.Lines.{line_of}
 use Rattle.ace_model.specs.Accepted.{least_broken}
 use Rattle.ace_model.specs.Trace.{Trace}
+use Rattle.ace_origins.specs.Origins.{IsOriginOf}
 use Rattle.ace_verdict.specs.Ended.{LeavesOutstanding}
 use Rattle.ace_verdict.specs.Verdict.{IsVerdictWithin}
 use Rattle.ace_verdict.specs.declared.limits.Limits.{Limits}
@@ -41,8 +42,8 @@ IsOther v = ⊤
 
 -- The bytes begin with a trace of which the event is the last; this is its number, and this is the
 -- least rule that it breaks after those before it, and of the clauses of that rule the first that
--- is false; this is what that clause expects and got, what there is of its line before it, and what
--- led to it.
+-- is false; this is what that clause expects and got, where the word that it got stands, what there
+-- is of its line before it, and what led to it.
 pub record BeginsBroken (bytes : List ℕ) (r : Refusal) : Type 0 where
   pub past : Trace
   pub text : BeginsWith bytes (trace_text r.header (reverse (r.event ∷ past)))
@@ -50,6 +51,7 @@ pub record BeginsBroken (bytes : List ℕ) (r : Refusal) : Type 0 where
   pub rule : least_broken r.header past r.event ≡ Some r.rule
   pub clause : clause_of r.header past r.event r.rule ≡ Some r.letter
   pub expected : r.expected ≡ expectation r.header past r.event r.rule r.letter
+  pub origin : IsOriginOf r.header past r.event r.rule r.letter r.origin
   pub before : r.before ≡ before_event r.header past r.event
   pub led : IsLed r.header past r.event r.led
 

@@ -15,17 +15,19 @@ use Rattle.ace_explanation.specs.declared.listener.Listener.{Listener}
 use Rattle.ace_journal.specs.Journals.{IsLed, JournalStands}
 use Rattle.ace_model.specs.Accepted.{least_broken}
 use Rattle.ace_model.specs.Trace.{Trace}
+use Rattle.ace_origins.specs.Origins.{IsOriginOf}
 use Rattle.ace_since.specs.Kept.{SinceStands}
 use Rattle.ace_verdict.specs.Progress.{StandsAt, StopsAt}
 use Rattle.ace_verdict.specs.declared.limits.Limits.{Limits}
 
 -- Where the event that ends the check breaks a rule, it is the one that is told, with its header;
--- the clause is the first of the rule that is false; and what this expects and got, what there is
--- of its line before it, and what led to it are told as well.
+-- the clause is the first of the rule that is false; and what this expects and got, where the word
+-- that it got stands, what there is of its line before it, and what led to it are told as well.
 abbrev pub BreaksAt : Header → Trace → Event → Explanation → Type 0
 BreaksAt h past e (Refused r) =
     (r.header ≡ h) × (r.event ≡ e) × (clause_of h past e r.rule ≡ Some r.letter)
-    × (r.expected ≡ expectation h past e r.rule r.letter) × (r.before ≡ before_event h past e)
+    × (r.expected ≡ expectation h past e r.rule r.letter)
+    × IsOriginOf h past e r.rule r.letter r.origin × (r.before ≡ before_event h past e)
     × IsLed h past e r.led
 BreaksAt h past e (Malformed b) = ⊥
 BreaksAt h past e (Accepted events outstanding) = ⊥

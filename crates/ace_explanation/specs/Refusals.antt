@@ -1,5 +1,5 @@
 -- What is told of an event that breaks a rule.
-use Rattle.std.specs.Prelude.{ℕ, ◌+◌, ◌++◌, ◌<◌, ◌^◌, Bool, if◌then◌else◌, List, [], Option, Some, None, codes, decimal}
+use Rattle.std.specs.Prelude.{ℕ, ◌+◌, ◌++◌, ◌<◌, ◌^◌, Bool, if◌then◌else◌, List, [], ◌∷◌, map, take, Option, Some, None, codes, decimal}
 use Rattle.ace_before.specs.Texts as before
 use Rattle.ace_before.specs.declared.before.LineBefore.{LineBefore}
 use Rattle.ace_clauses.specs.declared.letters.Letter.{Letter}
@@ -12,8 +12,14 @@ use Rattle.ace_expected.specs.Texts.{lines_text}
 use Rattle.ace_expected.specs.declared.wanted.Expectation.{Expectation}
 use Rattle.ace_explanation.specs.declared.refusal.Refusal.{Refusal}
 use Rattle.ace_journal.specs.LedTexts.{event_words, led_text}
+use Rattle.ace_journal.specs.SideTexts.{moment, note_text}
+use Rattle.ace_journal.specs.declared.rows.Row.{Row}
+use Rattle.ace_origins.specs.Texts.{origin_words}
+use Rattle.ace_origins.specs.declared.origins.Origin.{Origin}
 use Rattle.ace_pages.specs.Advice.{advice}
 use Rattle.ace_pages.specs.Pages.{page_name}
+use Rattle.ace_side_facts.specs.Facts.{fault_in}
+use Rattle.ace_side_facts.specs.declared.facts.SideFacts.{SideFacts}
 use Rattle.ace_words.specs.Breaks.{wrong_with}
 use Rattle.ace_words.specs.Rules.{kept_where, rule_title}
 
@@ -62,29 +68,48 @@ unfoldable pub expected_part : Option Expectation → List ℕ
 expected_part None = []
 expected_part (Some x) = lines_text x
 
+-- where the word stands that came, if that is told
+unfoldable pub origin_part : Option Origin → List ℕ
+origin_part None = []
+origin_part (Some o) = codes "  note      " ++ origin_words o ++ codes "\n"
+
 -- what there is of the line of the event before it, if it is about a line
-unfoldable pub before_part : ℕ → Header → Option LineBefore → List ℕ
-before_part index h None = []
-before_part index h (Some b) = codes "\n" ++ before.line_text index h b
+unfoldable pub before_part : SideFacts → ℕ → Header → Option LineBefore → List ℕ
+before_part f index h None = []
+before_part f index h (Some b) = codes "\n" ++ before.line_text f index h b
 
--- the event as it stands in the trace, with its data folded, and in words
-unfoldable pub event_part : Refusal → List ℕ
-event_part r =
-    codes "  " ++ folded_text r.event (event_text r.header.version r.event) ++ codes "\n"
-    ++ event_words r.led
+-- the event as it stands in the trace, with its data folded; when it is, in words, and what is
+-- remarked there
+unfoldable pub event_part : SideFacts → Refusal → List ℕ
+event_part f r =
+    codes "  " ++ folded_text r.event (event_text r.header.version r.event) ++ moment f r.index
+    ++ codes "\n" ++ event_words f r.led ++ note_text f r.index
 
--- the event; what the rule asks, expects and got; and what there is of the line before the event:
--- each with an empty line before it
-unfoldable pub evidence : Refusal → List ℕ
-evidence r =
-    codes "\n" ++ event_part r ++ codes "\n"
-    ++ rule_line r ++ expected_part r.expected ++ before_part r.index r.header r.before
+-- the event; what the rule asks, expects and got, and where that stands; and what there is of the
+-- line before the event: each with an empty line before it
+unfoldable pub evidence : SideFacts → Refusal → List ℕ
+evidence f r =
+    codes "\n" ++ event_part f r ++ codes "\n"
+    ++ rule_line r ++ expected_part r.expected ++ origin_part r.origin
+    ++ before_part f r.index r.header r.before
+
+-- that the side file can't be read, and why
+abbrev pub fault_line : Option (List ℕ) → List ℕ
+fault_line None = []
+fault_line (Some why) = codes "\n  note: " ++ why ++ codes "\n"
 
 -- what is told behind the first line: these, what led to the event, and where to look first
-unfoldable pub rest_of : Refusal → List ℕ
-rest_of r = evidence r ++ led_text r.rule r.letter r.led ++ advice r.rule
+unfoldable pub rest_of : SideFacts → Refusal → List ℕ
+rest_of f r =
+    evidence f r ++ led_text f r.rule r.letter r.led ++ advice r.rule ++ fault_line (fault_in f)
 
--- what is told of the event in the trace of this name: the first line alone where that was asked
--- for
-unfoldable pub refusal_text : List ℕ → Bool → Refusal → List ℕ
-refusal_text name short r = refusal_line name r ++ (if short then [] else rest_of r)
+-- what is told of the event in the trace of this name, with what its side file tells: the first
+-- line alone where that was asked for
+unfoldable pub refusal_text : SideFacts → List ℕ → Bool → Refusal → List ℕ
+refusal_text f name short r = refusal_line name r ++ (if short then [] else rest_of f r)
+
+-- the events of which a time is told: the last ones of the rows, and the event itself
+abbrev pub shown_events : Refusal → List ℕ
+shown_events r =
+    map (λ (row : Row). row.last) (take r.led.count r.led.rows) ++ r.led.own.last ∷ []
+    ++ r.index ∷ []

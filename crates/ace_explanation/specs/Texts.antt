@@ -6,6 +6,7 @@ use Rattle.ace_explanation.specs.declared.explanation.Explanation.TheVariants.{R
 use Rattle.ace_grammar.specs.Reasons.{number_of_reason}
 use Rattle.ace_malformed.specs.Texts.{bad_line_text}
 use Rattle.ace_outstanding.specs.Words.{outstanding_note}
+use Rattle.ace_side_facts.specs.declared.facts.SideFacts.{SideFacts}
 use Rattle.ace_verdict.specs.declared.verdict.Verdict.{Verdict}
 use Rattle.ace_verdict.specs.declared.verdict.Verdict.TheVariants as verdict
 
@@ -32,10 +33,11 @@ accepted_text name short events outstanding =
     verdict_line name (verdict.Accepted events) ++ (if short then []
     else outstanding_note outstanding)
 
--- what is told of the trace of this name: the first line alone where that was asked for
-abbrev pub explanation_text : List ℕ → Bool → Explanation → List ℕ
-explanation_text name short (Refused r) = refusal_text name short r
-explanation_text name short (Malformed b) = bad_line_text name short b
-explanation_text name short (Accepted events outstanding) =
+-- what is told of the trace of this name, with what its side file tells: the first line alone where
+-- that was asked for
+abbrev pub explanation_text : SideFacts → List ℕ → Bool → Explanation → List ℕ
+explanation_text f name short (Refused r) = refusal_text f name short r
+explanation_text f name short (Malformed b) = bad_line_text name short b
+explanation_text f name short (Accepted events outstanding) =
     accepted_text name short events outstanding
-explanation_text name short (Other v) = verdict_line name v
+explanation_text f name short (Other v) = verdict_line name v

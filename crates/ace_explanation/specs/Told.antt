@@ -6,6 +6,7 @@ use Rattle.ace_explanation.specs.Explanations.{verdict_of}
 use Rattle.ace_explanation.specs.Texts.{explanation_text}
 use Rattle.ace_explanation.specs.declared.explanation.Explanation.{Explanation}
 use Rattle.ace_explanation.specs.declared.explanation.Explanation.TheVariants.{Accepted, Other}
+use Rattle.ace_side_facts.specs.declared.facts.SideFacts.{SideFacts}
 use Rattle.ace_verdict.specs.declared.verdict.Verdict.{Verdict}
 use Rattle.ace_verdict.specs.declared.verdict.Verdict.TheVariants as verdict
 
@@ -16,14 +17,14 @@ IsToldAs (Accepted events outstanding) told = told ≡ Accepted events outstandi
 IsToldAs (Other v) told = told ≡ Other v
 IsToldAs x told = (told ≡ x) ⊎ (told ≡ Other verdict.NoMemory)
 
--- The explanation was told of the trace of this name: its text was appended, and its verdict is
--- this.
-abbrev pub HasTold : List ℕ → Bool → Explanation → Option (List ℕ) → Option (List ℕ) → Verdict
+-- The explanation was told of the trace of this name, with what its side file tells: its text was
+-- appended, and its verdict is this.
+abbrev pub HasTold : SideFacts → List ℕ → Bool → Explanation → Option (List ℕ) → Option (List ℕ) → Verdict
     → Type 0
-HasTold name short x out out' v = (told : Explanation) × IsToldAs x told
-    × (v ≡ verdict_of told) × Appends out out' (explanation_text name short told)
+HasTold f name short x out out' v = (told : Explanation) × IsToldAs x told
+    × (v ≡ verdict_of told) × Appends out out' (explanation_text f name short told)
 
 -- A front of its text was appended.
-abbrev pub HasToldPart : List ℕ → Bool → Explanation → Option (List ℕ) → Option (List ℕ) → Type 0
-HasToldPart name short x out out' = (told : Explanation) × IsToldAs x told
-    × AppendsPart out out' (explanation_text name short told)
+abbrev pub HasToldPart : SideFacts → List ℕ → Bool → Explanation → Option (List ℕ) → Option (List ℕ) → Type 0
+HasToldPart f name short x out out' = (told : Explanation) × IsToldAs x told
+    × AppendsPart out out' (explanation_text f name short told)

@@ -38,6 +38,7 @@ use ace_grammar::{ReadErr, Reason};
 use ace_io::{LineBuf, LineReader, NoMemory, Source};
 use ace_journal::{Journal, Row, next_transfers};
 use ace_malformed::{BadLine, LineText, next_event, read_header};
+use ace_origins::origin;
 use ace_outstanding::count_outstanding;
 use ace_since::Since;
 use ace_verdict::{Limits, Verdict};
@@ -76,6 +77,16 @@ fn refuse(
             rule,
             letter: found,
             expected: expectation(ports, lines, shares.system(), event, rule, found),
+            origin: origin(
+                ports,
+                lines,
+                &listener.since,
+                &listener.journal,
+                line,
+                event,
+                rule,
+                found,
+            ),
             before: before_event(ports, lines, &listener.since, event),
             led: listener
                 .journal

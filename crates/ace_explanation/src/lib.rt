@@ -9,6 +9,7 @@ mod listener;
 mod next;
 mod refusal;
 mod refusals;
+mod shown;
 mod to_sink;
 mod verdicts;
 
@@ -16,5 +17,6 @@ pub use explanation::Explanation;
 pub use follow::explanation_within;
 pub use refusal::Refusal;
 pub use refusals::{kept_sentence, refusal_text, title, wrong_sentence};
+pub use shown::shown_events;
 pub use to_sink::tell;
 pub use verdicts::verdict_text;

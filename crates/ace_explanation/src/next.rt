@@ -23,6 +23,7 @@ pub(crate) fn next_row(checker: &Checker, event: &Event) -> Row
     Row {
         first: number,
         last: number,
+        before: 0,
         deed,
     }
 }

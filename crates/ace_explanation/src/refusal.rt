@@ -3,6 +3,7 @@ use ace_clauses::Letter;
 use ace_event::{Event, Header};
 use ace_expected::Expectation;
 use ace_journal::Led;
+use ace_origins::Origin;
 
 /// The first event of a trace that breaks a rule.
 #[derive(Clone, Copy)]
@@ -19,6 +20,8 @@ pub struct Refusal {
     pub letter: Letter,
     /// What the clause expects and what it got, if it expects a value.
     pub expected: Option<Expectation>,
+    /// Where the word stands that the clause got, if it asks for a word.
+    pub origin: Option<Origin>,
     /// What there is of its line before it, if it is about a line.
     pub before: Option<LineBefore>,
     /// What led to it.

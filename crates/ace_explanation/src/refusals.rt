@@ -1,8 +1,9 @@
 // What is told of an event that breaks a rule.
 ghost use Rattle.std.specs.Prelude.{◌≡◌, ◌++◌, None, codes, decimal, IfOk, OnOk};
 ghost use Rattle.ace_journal.specs.LedTexts.{led_text};
+ghost use Rattle.ace_side_facts.specs.Facts.{fault_in};
 ghost use Rattle.ace_pages.specs.Pages.{page_name};
-ghost use Rattle.ace_explanation.specs.Refusals.{HasLine, before_part, event_part, evidence, expected_part, kept_part, kept_sentence, place_text, refusal_line, refusal_text, rest_of, rule_line, title, wrong_part, wrong_sentence};
+ghost use Rattle.ace_explanation.specs.Refusals.{HasLine, before_part, event_part, evidence, expected_part, fault_line, kept_part, kept_sentence, origin_part, place_text, refusal_line, refusal_text, rest_of, rule_line, title, wrong_part, wrong_sentence};
 
 use crate::event_line::push_event_text;
 use crate::refusal::Refusal;
@@ -11,9 +12,11 @@ use ace_clauses::{ClauseName, Letter};
 use ace_event::Header;
 use ace_expected::{Expectation, push_expectation};
 use ace_io::NoMemory;
-use ace_journal::{push_event_words, push_led};
+use ace_journal::{push_event_words, push_led, push_moment, push_note};
 use ace_malformed::{push, push_number};
+use ace_origins::{Origin, push_origin};
 use ace_pages::{page_name, push_advice};
+use ace_side_facts::SideFacts;
 use ace_words::{kept_where, rule_title, wrong_with};
 use std::alloc::Global;
 
@@ -134,61 +137,126 @@ fn push_expected(
     }
 }
 
+/// Adds where the word stands that came, if that is told.
+#[tactic(auto, unfolding(crate::specs::Refusals::origin_part))]
+fn push_origin_of(text: &mut Vec<u8>, origin: Option<Origin>) -> Result<(), NoMemory>
+    ensures { OnOk result (text.new.items ≡ text.old.items ++ origin_part origin) }
+{
+    match origin {
+        None => Ok(()),
+        Some(origin) => {
+            push(text, b"  note      ")?;
+            push_origin(text, origin)?;
+            push(text, b"\n")
+        }
+    }
+}
+
 /// Adds what there is of the line of the event before it.
 #[tactic(auto, unfolding(crate::specs::Refusals::before_part))]
 fn push_before(
+    alloc: Global,
     text: &mut Vec<u8>,
+    facts: &SideFacts,
     index: u64,
     header: &Header,
     before: &Option<LineBefore>,
 ) -> Result<(), NoMemory>
     ensures { OnOk result (text.new.items
-        ≡ text.old.items ++ before_part index header.now before.now) }
+        ≡ text.old.items ++ before_part facts.now index header.now before.now) }
 {
     match before {
         None => Ok(()),
         Some(before) => {
             push(text, b"\n")?;
-            push_line_before(text, index, header, before)
+            push_line_before(alloc, text, facts, index, header, before)
         }
     }
 }
 
-/// Adds the event as it stands in the trace, and in words.
+/// Adds the event as it stands in the trace, when it is, in words, and what is remarked there.
 #[tactic(auto, unfolding(crate::specs::Refusals::event_part))]
-fn push_event(alloc: Global, text: &mut Vec<u8>, refusal: &Refusal) -> Result<(), NoMemory>
+fn push_event(
+    alloc: Global,
+    text: &mut Vec<u8>,
+    facts: &SideFacts,
+    refusal: &Refusal,
+) -> Result<(), NoMemory>
     requires { HasLine refusal.now }
-    ensures { OnOk result (text.new.items ≡ text.old.items ++ event_part refusal.now) }
+    ensures { OnOk result (text.new.items ≡ text.old.items ++ event_part facts.now refusal.now) }
 {
     push(text, b"  ")?;
     push_event_text(alloc, text, &refusal.header, &refusal.event)?;
+    push_moment(alloc, text, facts, refusal.index)?;
     push(text, b"\n")?;
-    push_event_words(text, &refusal.led)
+    push_event_words(text, facts, &refusal.led)?;
+    push_note(text, facts, refusal.index)
 }
 
-/// Adds the event; what the rule asks, expects and got; and what there is of its line before it.
+/// Adds the event; what the rule asks, expects and got, and where that stands; and what there is of
+/// its line before it.
 #[tactic(auto, unfolding(crate::specs::Refusals::evidence))]
-fn push_evidence(alloc: Global, text: &mut Vec<u8>, refusal: &Refusal) -> Result<(), NoMemory>
+fn push_evidence(
+    alloc: Global,
+    text: &mut Vec<u8>,
+    facts: &SideFacts,
+    refusal: &Refusal,
+) -> Result<(), NoMemory>
     requires { HasLine refusal.now }
-    ensures { OnOk result (text.new.items ≡ text.old.items ++ evidence refusal.now) }
+    ensures { OnOk result (text.new.items ≡ text.old.items ++ evidence facts.now refusal.now) }
 {
     push(text, b"\n")?;
-    push_event(alloc, text, refusal)?;
+    push_event(alloc, text, facts, refusal)?;
     push(text, b"\n")?;
     push_rule(text, refusal)?;
     push_expected(alloc, text, &refusal.expected)?;
-    push_before(text, refusal.index, &refusal.header, &refusal.before)
+    push_origin_of(text, refusal.origin)?;
+    push_before(
+        alloc,
+        text,
+        facts,
+        refusal.index,
+        &refusal.header,
+        &refusal.before,
+    )
+}
+
+/// Adds that the side file can't be read, and why.
+fn push_fault(text: &mut Vec<u8>, facts: &SideFacts) -> Result<(), NoMemory>
+    ensures { OnOk result (text.new.items ≡ text.old.items ++ fault_line (fault_in facts.now)) }
+{
+    match facts.fault() {
+        None => Ok(()),
+        Some(why) => {
+            push(text, b"\n  note: ")?;
+            push(text, why)?;
+            push(text, b"\n")
+        }
+    }
 }
 
 /// Adds what is told behind the first line.
 #[tactic(auto, unfolding(crate::specs::Refusals::rest_of))]
-fn push_rest(alloc: Global, text: &mut Vec<u8>, refusal: &Refusal) -> Result<(), NoMemory>
+fn push_rest(
+    alloc: Global,
+    text: &mut Vec<u8>,
+    facts: &SideFacts,
+    refusal: &Refusal,
+) -> Result<(), NoMemory>
     requires { HasLine refusal.now }
-    ensures { OnOk result (text.new.items ≡ text.old.items ++ rest_of refusal.now) }
+    ensures { OnOk result (text.new.items ≡ text.old.items ++ rest_of facts.now refusal.now) }
 {
-    push_evidence(alloc, text, refusal)?;
-    push_led(alloc, text, refusal.rule, refusal.letter, &refusal.led)?;
-    push_advice(text, refusal.rule)
+    push_evidence(alloc, text, facts, refusal)?;
+    push_led(
+        alloc,
+        text,
+        facts,
+        refusal.rule,
+        refusal.letter,
+        &refusal.led,
+    )?;
+    push_advice(text, refusal.rule)?;
+    push_fault(text, facts)
 }
 
 /// Adds what is told of the event.
@@ -198,21 +266,22 @@ fn push_refusal(
     text: &mut Vec<u8>,
     name: &[u8],
     short: bool,
+    facts: &SideFacts,
     refusal: &Refusal,
 ) -> Result<(), NoMemory>
     requires { HasLine refusal.now }
     ensures { OnOk result (text.new.items ≡ text.old.items
-        ++ refusal_text name.now short refusal.now) }
+        ++ refusal_text facts.now name.now short refusal.now) }
 {
     push_line(text, name, refusal)?;
     if !short {
-        push_rest(alloc, text, refusal)?;
+        push_rest(alloc, text, facts, refusal)?;
     }
     Ok(())
 }
 
-/// What is told of the event in the trace of this name: the first line alone where that was asked
-/// for.
+/// What is told of the event in the trace of this name, with what its side file tells: the first
+/// line alone where that was asked for.
 ///
 /// # Errors
 ///
@@ -221,12 +290,13 @@ pub fn refusal_text(
     alloc: Global,
     name: &[u8],
     short: bool,
+    facts: &SideFacts,
     refusal: &Refusal,
 ) -> Result<Vec<u8>, NoMemory>
     requires { HasLine refusal.now }
-    ensures { IfOk result (λ text. text.items ≡ refusal_text name.now short refusal.now) }
+    ensures { IfOk result (λ text. text.items ≡ refusal_text facts.now name.now short refusal.now) }
 {
     let mut text = Vec::new(alloc);
-    push_refusal(alloc, &mut text, name, short, refusal)?;
+    push_refusal(alloc, &mut text, name, short, facts, refusal)?;
     Ok(text)
 }

@@ -13,6 +13,7 @@ use crate::verdicts::{give_accepted, give_verdict};
 use ace_call::give_text;
 use ace_io::{Failed, NoMemory, Sink};
 use ace_malformed::{BadLine, bad_line_text};
+use ace_side_facts::SideFacts;
 use ace_verdict::Verdict;
 use std::alloc::Global;
 
@@ -22,11 +23,12 @@ fn tell_verdict<K: Sink>(
     out: &mut K,
     name: &str,
     short: bool,
+    _facts: &SideFacts,
     verdict: Verdict,
 ) -> Result<Verdict, Failed>
-    ensures whole { IfOk result (HasTold name.now short (Other verdict) (K.held out.old)
+    ensures whole { IfOk result (HasTold _facts.now name.now short (Other verdict) (K.held out.old)
         (K.held out.new)) }
-    ensures part { OnErr result (HasToldPart name.now short (Other verdict) (K.held out.old)
+    ensures part { OnErr result (HasToldPart _facts.now name.now short (Other verdict) (K.held out.old)
         (K.held out.new)) }
     ensures cause { HasCause (K.faults out.old) (K.faults out.new) result }
 {
@@ -42,12 +44,13 @@ fn tell_accepted<K: Sink>(
     out: &mut K,
     name: &str,
     short: bool,
+    _facts: &SideFacts,
     events: u64,
     outstanding: u64,
 ) -> Result<Verdict, Failed>
-    ensures whole { IfOk result (HasTold name.now short (Accepted events outstanding)
+    ensures whole { IfOk result (HasTold _facts.now name.now short (Accepted events outstanding)
         (K.held out.old) (K.held out.new)) }
-    ensures part { OnErr result (HasToldPart name.now short (Accepted events outstanding)
+    ensures part { OnErr result (HasToldPart _facts.now name.now short (Accepted events outstanding)
         (K.held out.old) (K.held out.new)) }
     ensures cause { HasCause (K.faults out.old) (K.faults out.new) result }
 {
@@ -64,21 +67,22 @@ fn tell_refusal<K: Sink>(
     out: &mut K,
     name: &str,
     short: bool,
+    facts: &SideFacts,
     refusal: Refusal,
 ) -> Result<Verdict, Failed>
     requires { HasLine refusal }
-    ensures whole { IfOk result (HasTold name.now short (Refused refusal) (K.held out.old)
+    ensures whole { IfOk result (HasTold facts.now name.now short (Refused refusal) (K.held out.old)
         (K.held out.new)) }
-    ensures part { OnErr result (HasToldPart name.now short (Refused refusal) (K.held out.old)
+    ensures part { OnErr result (HasToldPart facts.now name.now short (Refused refusal) (K.held out.old)
         (K.held out.new)) }
     ensures cause { HasCause (K.faults out.old) (K.faults out.new) result }
 {
-    match refusal_text(alloc, name.as_bytes(), short, &refusal) {
+    match refusal_text(alloc, name.as_bytes(), short, facts, &refusal) {
         Ok(text) => match give_text(out, text.as_slice()) {
             Ok(()) => Ok(Explanation::Refused { refusal }.verdict()),
             Err(failed) => Err(failed),
         },
-        Err(NoMemory) => tell_verdict(out, name, short, Verdict::NoMemory),
+        Err(NoMemory) => tell_verdict(out, name, short, facts, Verdict::NoMemory),
     }
 }
 
@@ -89,11 +93,12 @@ fn tell_malformed<K: Sink>(
     out: &mut K,
     name: &str,
     short: bool,
+    facts: &SideFacts,
     bad: BadLine,
 ) -> Result<Verdict, Failed>
-    ensures whole { IfOk result (HasTold name.now short (Malformed bad) (K.held out.old)
+    ensures whole { IfOk result (HasTold facts.now name.now short (Malformed bad) (K.held out.old)
         (K.held out.new)) }
-    ensures part { OnErr result (HasToldPart name.now short (Malformed bad) (K.held out.old)
+    ensures part { OnErr result (HasToldPart facts.now name.now short (Malformed bad) (K.held out.old)
         (K.held out.new)) }
     ensures cause { HasCause (K.faults out.old) (K.faults out.new) result }
 {
@@ -102,11 +107,11 @@ fn tell_malformed<K: Sink>(
             Ok(()) => Ok(Explanation::Malformed { bad }.verdict()),
             Err(failed) => Err(failed),
         },
-        Err(_) => tell_verdict(out, name, short, Verdict::NoMemory),
+        Err(_) => tell_verdict(out, name, short, facts, Verdict::NoMemory),
     }
 }
 
-/// Tells the explanation of the trace of this name, or that there was no memory for that, and says
+/// Tells the explanation of the trace of this name, with what its side file tells, or that there was no memory for that, and says
 /// which verdict was told.
 ///
 /// # Errors
@@ -118,22 +123,23 @@ pub fn tell<K: Sink>(
     out: &mut K,
     name: &str,
     short: bool,
+    facts: &SideFacts,
     explanation: Explanation,
 ) -> Result<Verdict, Failed>
     requires { HasAnyLine explanation }
-    ensures whole { IfOk result (HasTold name.now short explanation (K.held out.old)
+    ensures whole { IfOk result (HasTold facts.now name.now short explanation (K.held out.old)
         (K.held out.new)) }
-    ensures part { OnErr result (HasToldPart name.now short explanation (K.held out.old)
+    ensures part { OnErr result (HasToldPart facts.now name.now short explanation (K.held out.old)
         (K.held out.new)) }
     ensures cause { HasCause (K.faults out.old) (K.faults out.new) result }
 {
     match explanation {
-        Explanation::Refused { refusal } => tell_refusal(alloc, out, name, short, refusal),
-        Explanation::Malformed { bad } => tell_malformed(alloc, out, name, short, bad),
+        Explanation::Refused { refusal } => tell_refusal(alloc, out, name, short, facts, refusal),
+        Explanation::Malformed { bad } => tell_malformed(alloc, out, name, short, facts, bad),
         Explanation::Accepted {
             events,
             outstanding,
-        } => tell_accepted(out, name, short, events, outstanding),
-        Explanation::Other { verdict } => tell_verdict(out, name, short, verdict),
+        } => tell_accepted(out, name, short, facts, events, outstanding),
+        Explanation::Other { verdict } => tell_verdict(out, name, short, facts, verdict),
     }
 }

@@ -1,5 +1,6 @@
 pub mod Journals
 pub mod LedTexts
+pub mod SideTexts
 pub mod Looks
 pub mod Marks
 pub mod Rows

@@ -1,5 +1,5 @@
 -- Which rows are marked, and how: what a look shows among the rows of the line of an event.
-use Rattle.std.specs.Prelude.{ℕ, ◌++◌, ◌&&◌, ◌||◌, ◌==◌, not, Bool, true, false, if◌then◌else◌, List, [], Option, Some, None, codes}
+use Rattle.std.specs.Prelude.{ℕ, ◌++◌, ◌&&◌, ◌||◌, ◌==◌, not, Bool, true, false, if◌then◌else◌, List, [], Option, Some, None, codes, length}
 use Rattle.std.specs.List.{list_any}
 use Rattle.ace_codes.specs.Responses.{is_shared, passes_dirty, transfers_data}
 use Rattle.ace_clauses.specs.declared.letters.Letter.{Letter}
@@ -118,33 +118,38 @@ is_shown look p newer row =
     shows look p row.deed && not (list_any (λ (r : Row). ends look p row.deed r.deed) newer)
 
 abbrev pub look_words : Look → List ℕ
-look_words Issue = codes "   <- is outstanding"
-look_words OtherUse = codes "   <- uses the line the other way"
-look_words Grant = codes "   <- the grant"
-look_words Snoop = codes "   <- the snoop"
-look_words Unanswered = codes "   <- no answer yet"
-look_words DataAnswer = codes "   <- the answer"
-look_words PassedDirty = codes "   <- passes the dirty line"
-look_words Kept = codes "   <- keeps the line"
-look_words Begun = codes "   <- the transfers have begun"
-look_words Transfer = codes "   <- its last transfer"
-look_words Sent = codes "   <- its last data"
-look_words Response = codes "   <- its response"
-look_words OwnWrite = codes "   <- memory is written for it"
-look_words MemoryWrite = codes "   <- the last write of memory"
-look_words Store = codes "   <- its last store"
-look_words State = codes "   <- its state since then"
-look_words ExclusiveLoad = codes "   <- its last exclusive load"
-look_words ExclusiveStore = codes "   <- its exclusive store"
-look_words Lost = codes "   <- leaves the line in I"
+look_words Issue = codes "is outstanding"
+look_words OtherUse = codes "uses the line the other way"
+look_words Grant = codes "the grant"
+look_words Snoop = codes "the snoop"
+look_words Unanswered = codes "no answer yet"
+look_words DataAnswer = codes "the answer"
+look_words PassedDirty = codes "passes the dirty line"
+look_words Kept = codes "keeps the line"
+look_words Begun = codes "the transfers have begun"
+look_words Transfer = codes "its last transfer"
+look_words Sent = codes "its last data"
+look_words Response = codes "its response"
+look_words OwnWrite = codes "memory is written for it"
+look_words MemoryWrite = codes "the last write of memory"
+look_words Store = codes "its last store"
+look_words State = codes "its state since then"
+look_words ExclusiveLoad = codes "its last exclusive load"
+look_words ExclusiveStore = codes "its exclusive store"
+look_words Lost = codes "leaves the line in I"
 
 -- the mark of the row by the look, if there is one
 abbrev pub mark_by : Option Look → ℕ → List Row → Row → List ℕ
 mark_by None p newer row = []
 mark_by (Some look) p newer row = if is_shown look p newer row then look_words look else []
 
+-- the same behind the row, if there is one
+unfoldable pub mark_part : List ℕ → List ℕ
+mark_part mark = if length mark == 0 then [] else codes "   <- " ++ mark
+
 abbrev pub marks_by : Looks → ℕ → List Row → Row → List ℕ
-marks_by looks p newer row = mark_by looks.first p newer row ++ mark_by looks.second p newer row
+marks_by looks p newer row =
+    mark_part (mark_by looks.first p newer row) ++ mark_part (mark_by looks.second p newer row)
 
 -- what is looked for among the rows of the event: of one without a line nothing
 abbrev pub looks_for : Option ℕ → ℕ → Letter → Looks

@@ -1,5 +1,5 @@
 -- The events of a line as they are told, the newest first: transfers one after another are one row.
-use Rattle.std.specs.Prelude.{ℕ, ◌+◌, ◌==◌, ◌&&◌, Bool, true, false, if◌then◌else◌, List, [], ◌∷◌, Option, Some, None, is_none, length, take}
+use Rattle.std.specs.Prelude.{ℕ, ◌+◌, ◌-◌, ◌==◌, ◌&&◌, Bool, true, false, if◌then◌else◌, List, [], ◌∷◌, Option, Some, None, is_none, length, slice_get, take}
 use Rattle.ace_belongs.specs.Belongs.{event_line, serves_in}
 use Rattle.ace_event.specs.declared.event.Event.{Event}
 use Rattle.ace_event.specs.declared.event.Event.TheVariants as event
@@ -39,13 +39,25 @@ is_same_line None (Some k) = false
 is_same_line (Some l) None = false
 is_same_line (Some l) (Some k) = l == k
 
--- the row of an event after a trace
+-- how many events of the line are kept, or of the events without a line
+abbrev pub kept_on : Header → Trace → Option ℕ → ℕ
+kept_on h [] line = 0
+kept_on h (e ∷ past) line =
+    if is_kept e && is_same_line (event_line h past e) line then kept_on h past line + 1
+    else kept_on h past line
+
+-- the row of an event after a trace, by itself
 abbrev pub row_of : Header → Trace → Event → Row
 row_of h past e = record {
   first = length past + 1;
   last = length past + 1;
+  before = 0;
   deed = deed_of (serves_in h past e) e;
 }
+
+-- the same, behind so many events of its line
+abbrev pub behind : ℕ → Row → Row
+behind count row = record row { before = count }
 
 -- the newest row takes the next one in
 abbrev pub joins : List Row → Row → Bool
@@ -61,12 +73,12 @@ extended last (r ∷ rows) = record r { last = last } ∷ rows
 abbrev pub put_row : Row → List Row → List Row
 put_row next rows = if joins rows next then extended next.last rows else next ∷ rows
 
--- the rows of the line, or of the events without a line
+-- the rows of the line, or of the events without a line, each behind the events that are kept
 abbrev pub rows_on : Header → Trace → Option ℕ → List Row
 rows_on h [] line = []
 rows_on h (e ∷ past) line =
     if is_kept e && is_same_line (event_line h past e) line
-    then put_row (row_of h past e) (rows_on h past line)
+    then put_row (behind (kept_on h past line) (row_of h past e)) (rows_on h past line)
     else rows_on h past line
 
 -- the event ends an operation, or goes on with a transaction that there isn't
@@ -86,3 +98,11 @@ is_alone _ = false
 abbrev pub led_rows : Header → Trace → Event → List Row
 led_rows h past e =
     if is_alone (row_of h past e).deed then [] else take 16 (rows_on h past (event_line h past e))
+
+-- how many events that are kept came before the oldest of these rows, of which the newest is first
+abbrev pub before_in : Option Row → ℕ
+before_in None = 0
+before_in (Some row) = row.before
+
+abbrev pub earlier_than : List Row → ℕ
+earlier_than rows = before_in (slice_get rows (length rows - 1))

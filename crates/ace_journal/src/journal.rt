@@ -15,6 +15,7 @@ use std::collections::VecDeque;
 const NO_ROW: Row = Row {
     first: 0,
     last: 0,
+    before: 0,
     deed: Deed::Mem,
 };
 
@@ -40,12 +41,12 @@ fn copied(rows: &Rows, count: usize) -> [Row; MOST_ROWS]
 }
 
 impl Journal {
-    ghost use Rattle.std.specs.Prelude.{◌<◌, ◌∷◌, [], ℕ, Option, None, Some, OnOk, nat_eq};
+    ghost use Rattle.std.specs.Prelude.{◌+◌, ◌<◌, ◌∷◌, [], ℕ, Option, None, Some, OnOk, nat_eq, slice_get};
     ghost use Rattle.ace_belongs.specs.Belongs.{event_line};
     ghost use Rattle.ace_event.specs.declared.event.Event.{Event as Occurrence};
     ghost use Rattle.ace_event.specs.declared.header.Header.{Header as Head};
-    ghost use Rattle.ace_journal.specs.Journals.{IsLed, JournalStands, items_of, rows_at};
-    ghost use Rattle.ace_journal.specs.Rows.{put_row, row_of};
+    ghost use Rattle.ace_journal.specs.Journals.{AreSameRows, IsLed, JournalStands, heard_at, items_of, lines_of, rows_at};
+    ghost use Rattle.ace_journal.specs.Rows.{behind, put_row, row_of};
     ghost use Rattle.ace_journal.specs.Transfers.{transfers_in};
     ghost use Rattle.indexmap.specs.IndexMap.{get};
     ghost use Rattle.std.specs.Option.{option_copied};
@@ -60,6 +61,7 @@ impl Journal {
             lines: LineMap::new(alloc),
             lineless: Rows {
                 kept: VecDeque::new(alloc),
+                heard: 0,
             },
         }
     }
@@ -67,16 +69,18 @@ impl Journal {
     /// The next row is the first of its line.
     fn begin(&mut self, line: u32, next: Row) -> Result<(), NoMemory>
         ensures here { OnOk result (get nat_eq self.old.lines line ≡ None
-            → rows_at self.new (Some line) ≡ next ∷ []) }
+            → rows_at self.new (Some line) ≡ behind 0 next ∷ []) }
+        ensures heard { OnOk result (get nat_eq self.old.lines line ≡ None
+            → heard_at self.new (Some line) ≡ 1) }
         ensures others { OnOk result ((q : ℕ) → (q ≡ line → ⊥)
-            → rows_at self.new (Some q) ≡ rows_at self.old (Some q)) }
+            → AreSameRows self.old self.new (Some q)) }
         ensures lineless { OnOk result (self.new.lineless ≡ self.old.lineless) }
     {
         let mut kept = VecDeque::new(self.alloc);
-        if kept.push_front(next).is_err() {
+        if kept.push_front(Row { before: 0, ..next }).is_err() {
             return Err(NoMemory);
         }
-        match self.lines.add(line, Rows { kept }) {
+        match self.lines.add(line, Rows { kept, heard: 1 }) {
             Ok(()) => Ok(()),
             Err(_) => Err(NoMemory),
         }
@@ -85,9 +89,12 @@ impl Journal {
     /// Puts the next row to those of its line.
     fn put_on(&mut self, line: u32, next: Row) -> Result<(), NoMemory>
         ensures here { OnOk result ((all : List Row) → rows_at self.old (Some line) ≡ take 16 all
-            → rows_at self.new (Some line) ≡ take 16 (put_row next all)) }
+            → rows_at self.new (Some line)
+            ≡ take 16 (put_row (behind (heard_at self.old (Some line)) next) all)) }
+        ensures heard { OnOk result (heard_at self.old (Some line) < next.first
+            → heard_at self.new (Some line) ≡ heard_at self.old (Some line) + 1) }
         ensures others { OnOk result ((q : ℕ) → (q ≡ line → ⊥)
-            → rows_at self.new (Some q) ≡ rows_at self.old (Some q)) }
+            → AreSameRows self.old self.new (Some q)) }
         ensures lineless { OnOk result (self.new.lineless ≡ self.old.lineless) }
     {
         let Some(rows) = self.lines.get_mut(line) else {
@@ -114,6 +121,20 @@ impl Journal {
             Some(line) => self.put_on(line, next),
             None => put(&mut self.lineless, next),
         }
+    }
+
+    /// How many lines there are of which events are kept.
+    pub fn lines(&self) -> usize
+        ensures { result ≡ length (lines_of self.now) }
+    {
+        self.lines.len()
+    }
+
+    /// The line at the place, in the order in which the first events of the lines came.
+    pub fn line_at(&self, place: usize) -> Option<u32>
+        ensures { result ≡ slice_get (lines_of self.now) place }
+    {
+        self.lines.line_at(place)
     }
 
     /// The rows that are kept of the line, or of the events without a line.

@@ -1,16 +1,18 @@
 // The text of what led to an event.
-ghost use Rattle.std.specs.Prelude.{◌≡◌, ◌++◌, OnOk, codes, if◌then◌else◌};
-ghost use Rattle.ace_journal.specs.LedTexts.{event_words, heading_text, heading_words, is_many, led_text, line_words, marked_row, numbers_text, own_row, right_of, row_text, rows_text, told_words, transfers_of};
+ghost use Rattle.std.specs.Prelude.{◌≡◌, ◌++◌, IfOk, OnOk, codes, if◌then◌else◌};
+ghost use Rattle.ace_journal.specs.LedTexts.{earlier_row, earlier_words, event_words, gap_start, heading_text, heading_words, is_many, led_text, line_words, marked_row, numbers_text, own_row, right_of, row_text, rows_text, told_words, transfers_of, width_of};
 ghost use Rattle.ace_model.specs.AddressRules.{is_aligned};
 
 use crate::led::Led;
 use crate::looks::Looks;
 use crate::marks::{looks_for, port_of, push_marks};
-use crate::rows::Row;
+use crate::rows::{Row, earlier_than};
+use crate::side_text::{push_real, push_time_column, push_time_of};
 use ace_clauses::Letter;
 use ace_event_words::{Deed, Transfers, push_deed, record_column};
 use ace_io::NoMemory;
 use ace_malformed::{push, push_number};
+use ace_side_facts::SideFacts;
 use ace_writer::TextBuf;
 use std::alloc::Global;
 
@@ -72,18 +74,21 @@ fn push_told(text: &mut Vec<u8>, transfers: Transfers, deed: &Deed) -> Result<()
 fn push_row(
     alloc: Global,
     text: &mut Vec<u8>,
+    facts: &SideFacts,
+    width: usize,
     start: &[u8],
     transfers: Transfers,
     row: &Row,
 ) -> Result<(), NoMemory>
     ensures { OnOk result (text.new.items
-        ≡ text.old.items ++ row_text start.now transfers row.now) }
+        ≡ text.old.items ++ row_text facts.now width start.now transfers row.now) }
 {
     let mut numbers = Vec::new(alloc);
     push_numbers(&mut numbers, row)?;
     push(text, start)?;
     push_right(text, numbers.as_slice())?;
     push(text, b"  ")?;
+    push_time_column(alloc, text, facts, width, row.last)?;
     push_told(text, transfers, &row.deed)
 }
 
@@ -119,18 +124,19 @@ fn push_line(text: &mut Vec<u8>, line: Option<u32>) -> Result<(), NoMemory>
     Ok(())
 }
 
-/// Adds the event in words.
+/// Adds the event in words, with the address that its line has in the design, where that is known.
 ///
 /// # Errors
 ///
 /// `NoMemory` where there is none for the longer text.
 #[tactic(auto, unfolding(crate::specs::LedTexts::event_words))]
-pub fn push_event_words(text: &mut Vec<u8>, led: &Led) -> Result<(), NoMemory>
-    ensures { OnOk result (text.new.items ≡ text.old.items ++ event_words led.now) }
+pub fn push_event_words(text: &mut Vec<u8>, facts: &SideFacts, led: &Led) -> Result<(), NoMemory>
+    ensures { OnOk result (text.new.items ≡ text.old.items ++ event_words facts.now led.now) }
 {
     push(text, b"  ")?;
     push_deed(text, led.transfers, &led.own.deed)?;
     push_line(text, led.line)?;
+    push_real(text, facts, led.line)?;
     push(text, b"\n")
 }
 
@@ -157,15 +163,17 @@ fn push_heading(text: &mut Vec<u8>, line: Option<u32>) -> Result<(), NoMemory>
 fn push_marked(
     alloc: Global,
     text: &mut Vec<u8>,
+    facts: &SideFacts,
+    width: usize,
     looks: &Looks,
     port: u8,
     newer: &[Row],
     row: &Row,
 ) -> Result<(), NoMemory>
     ensures { OnOk result (text.new.items
-        ≡ text.old.items ++ marked_row looks.now port newer.now row.now) }
+        ≡ text.old.items ++ marked_row facts.now width looks.now port newer.now row.now) }
 {
-    push_row(alloc, text, b"    ", transfers_of(row), row)?;
+    push_row(alloc, text, facts, width, b"    ", transfers_of(row), row)?;
     push_marks(text, looks, port, newer, row)?;
     push(text, b"\n")
 }
@@ -175,32 +183,96 @@ fn push_marked(
 fn push_rows(
     alloc: Global,
     text: &mut Vec<u8>,
+    facts: &SideFacts,
+    width: usize,
     looks: &Looks,
     port: u8,
     rows: &[Row],
 ) -> Result<(), NoMemory>
     ensures { OnOk result (text.new.items
-        ≡ text.old.items ++ rows_text looks.now port rows.now 0 rows.now) }
+        ≡ text.old.items ++ rows_text facts.now width looks.now port rows.now 0 rows.now) }
 {
     let mut left = rows.len();
     while left > 0 {
         left -= 1;
-        push_marked(alloc, text, looks, port, &rows[..left], &rows[left])?;
+        push_marked(
+            alloc,
+            text,
+            facts,
+            width,
+            looks,
+            port,
+            &rows[..left],
+            &rows[left],
+        )?;
     }
     Ok(())
 }
 
+/// How wide the column of times is: as the time of the event itself.
+fn width_of(alloc: Global, facts: &SideFacts, led: &Led) -> Result<usize, NoMemory>
+    ensures { IfOk result (λ width. width ≡ width_of facts.now led.now) }
+{
+    let mut time = Vec::new(alloc);
+    push_time_of(&mut time, facts, led.own.last)?;
+    Ok(time.len())
+}
+
+/// What so many earlier events are called: those of a line, or those without one.
+#[tactic(auto, unfolding(crate::specs::LedTexts::earlier_words))]
+fn push_earlier_words(text: &mut Vec<u8>, line: Option<u32>, count: u64) -> Result<(), NoMemory>
+    ensures { OnOk result (text.new.items ≡ text.old.items ++ earlier_words line count) }
+{
+    if count == 1 {
+        push(text, b" earlier event")?;
+    } else {
+        push(text, b" earlier events")?;
+    }
+    match line {
+        Some(_) => push(text, b" of the line\n"),
+        None => push(text, b" without a line\n"),
+    }
+}
+
+/// What the row begins with that tells of earlier events.
+#[tactic(auto, unfolding(crate::specs::LedTexts::gap_start))]
+fn gap_start() -> &'static [u8]
+    ensures { result.now ≡ gap_start }
+{
+    b"          ...  "
+}
+
+/// Adds that so many events came before the rows, if any did.
+#[tactic(auto, unfolding(crate::specs::LedTexts::earlier_row))]
+fn push_earlier(text: &mut Vec<u8>, line: Option<u32>, count: u64) -> Result<(), NoMemory>
+    ensures { OnOk result (text.new.items ≡ text.old.items ++ earlier_row line count) }
+{
+    if count == 0 {
+        return Ok(());
+    }
+    push(text, gap_start())?;
+    push_number(text, count)?;
+    push_earlier_words(text, line, count)
+}
+
 /// Adds the row of the event itself.
 #[tactic(auto, unfolding(crate::specs::LedTexts::own_row))]
-fn push_own(alloc: Global, text: &mut Vec<u8>, led: &Led) -> Result<(), NoMemory>
-    ensures { OnOk result (text.new.items ≡ text.old.items ++ own_row led.now) }
+fn push_own(
+    alloc: Global,
+    text: &mut Vec<u8>,
+    facts: &SideFacts,
+    width: usize,
+    led: &Led,
+) -> Result<(), NoMemory>
+    requires { width ≡ width_of facts.now led.now }
+    ensures { OnOk result (text.new.items ≡ text.old.items ++ own_row facts.now led.now) }
 {
-    push_row(alloc, text, b"  > ", led.transfers, &led.own)?;
+    push_row(alloc, text, facts, width, b"  > ", led.transfers, &led.own)?;
     push(text, b"\n")
 }
 
-/// Adds what led to the event, which breaks this clause, and the event itself; nothing where
-/// nothing led there.
+/// Adds what led to the event, which breaks this clause, and the event itself, with their times,
+/// where those are known; nothing where nothing led there.
 ///
 /// # Errors
 ///
@@ -209,23 +281,23 @@ fn push_own(alloc: Global, text: &mut Vec<u8>, led: &Led) -> Result<(), NoMemory
 pub fn push_led(
     alloc: Global,
     text: &mut Vec<u8>,
+    facts: &SideFacts,
     rule: u8,
     letter: Letter,
     led: &Led,
 ) -> Result<(), NoMemory>
-    ensures { OnOk result (text.new.items ≡ text.old.items ++ led_text rule letter led.now) }
+    ensures { OnOk result (text.new.items
+        ≡ text.old.items ++ led_text facts.now rule letter led.now) }
 {
     if led.count == 0 {
         return Ok(());
     }
     let looks = looks_for(led.line, rule, letter);
+    let width = width_of(alloc, facts, led)?;
+    let port = port_of(&led.own.deed);
+    let rows = &led.rows[..led.count];
     push_heading(text, led.line)?;
-    push_rows(
-        alloc,
-        text,
-        &looks,
-        port_of(&led.own.deed),
-        &led.rows[..led.count],
-    )?;
-    push_own(alloc, text, led)
+    push_earlier(text, led.line, earlier_than(rows))?;
+    push_rows(alloc, text, facts, width, &looks, port, rows)?;
+    push_own(alloc, text, facts, width, led)
 }

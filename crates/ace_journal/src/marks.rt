@@ -1,7 +1,7 @@
 // Which rows are marked, and how.
 ghost use Rattle.std.specs.Prelude.{◌≡◌, ◌++◌, OnOk};
 ghost use Rattle.std.specs.List.{list_any};
-ghost use Rattle.ace_journal.specs.Marks.{answers, ends, is_exclusive_load_of, is_grant, is_issue, is_issue_of, is_shown, is_store_of, leaves_nothing, look_words, looks_for, mark_by, marks_by, names_state, port_of, shows};
+ghost use Rattle.ace_journal.specs.Marks.{answers, ends, is_exclusive_load_of, is_grant, is_issue, is_issue_of, is_shown, is_store_of, leaves_nothing, look_words, looks_for, mark_by, mark_part, marks_by, names_state, port_of, shows};
 ghost use Rattle.ace_journal.specs.declared.rows.Row.{Row as Kept};
 
 use crate::looks::{Look, Looks, looks_of};
@@ -13,7 +13,7 @@ use ace_io::NoMemory;
 use ace_malformed::push;
 
 /// The port of an event: 32, which is none, of a MEM.
-pub(crate) fn port_of(deed: &Deed) -> u8
+pub fn port_of(deed: &Deed) -> u8
     ensures { result ≡ port_of deed.now }
 {
     match *deed {
@@ -175,30 +175,30 @@ fn look_words(look: Look) -> &'static [u8]
     ensures { result.now ≡ look_words look }
 {
     match look {
-        Look::Issue => b"   <- is outstanding",
-        Look::OtherUse => b"   <- uses the line the other way",
-        Look::Grant => b"   <- the grant",
-        Look::Snoop => b"   <- the snoop",
-        Look::Unanswered => b"   <- no answer yet",
-        Look::DataAnswer => b"   <- the answer",
-        Look::PassedDirty => b"   <- passes the dirty line",
-        Look::Kept => b"   <- keeps the line",
-        Look::Begun => b"   <- the transfers have begun",
-        Look::Transfer => b"   <- its last transfer",
-        Look::Sent => b"   <- its last data",
-        Look::Response => b"   <- its response",
-        Look::OwnWrite => b"   <- memory is written for it",
-        Look::MemoryWrite => b"   <- the last write of memory",
-        Look::Store => b"   <- its last store",
-        Look::State => b"   <- its state since then",
-        Look::ExclusiveLoad => b"   <- its last exclusive load",
-        Look::ExclusiveStore => b"   <- its exclusive store",
-        Look::Lost => b"   <- leaves the line in I",
+        Look::Issue => b"is outstanding",
+        Look::OtherUse => b"uses the line the other way",
+        Look::Grant => b"the grant",
+        Look::Snoop => b"the snoop",
+        Look::Unanswered => b"no answer yet",
+        Look::DataAnswer => b"the answer",
+        Look::PassedDirty => b"passes the dirty line",
+        Look::Kept => b"keeps the line",
+        Look::Begun => b"the transfers have begun",
+        Look::Transfer => b"its last transfer",
+        Look::Sent => b"its last data",
+        Look::Response => b"its response",
+        Look::OwnWrite => b"memory is written for it",
+        Look::MemoryWrite => b"the last write of memory",
+        Look::Store => b"its last store",
+        Look::State => b"its state since then",
+        Look::ExclusiveLoad => b"its last exclusive load",
+        Look::ExclusiveStore => b"its exclusive store",
+        Look::Lost => b"leaves the line in I",
     }
 }
 
-/// The mark of the row by the look, if there is one.
-fn mark_by(look: Option<Look>, port: u8, newer: &[Row], row: &Row) -> &'static [u8]
+/// The mark of the row by the look: empty where there is none.
+pub fn mark_by(look: Option<Look>, port: u8, newer: &[Row], row: &Row) -> &'static [u8]
     ensures { result.now ≡ mark_by look port newer.now row.now }
 {
     match look {
@@ -213,6 +213,18 @@ fn mark_by(look: Option<Look>, port: u8, newer: &[Row], row: &Row) -> &'static [
     }
 }
 
+/// Adds the mark behind the row, if there is one.
+#[tactic(auto, unfolding(crate::specs::Marks::mark_part))]
+fn push_mark(text: &mut Vec<u8>, mark: &[u8]) -> Result<(), NoMemory>
+    ensures { OnOk result (text.new.items ≡ text.old.items ++ mark_part mark.now) }
+{
+    if mark.is_empty() {
+        return Ok(());
+    }
+    push(text, b"   <- ")?;
+    push(text, mark)
+}
+
 /// Adds the marks of the row.
 pub(crate) fn push_marks(
     text: &mut Vec<u8>,
@@ -224,12 +236,12 @@ pub(crate) fn push_marks(
     ensures { OnOk result (text.new.items
         ≡ text.old.items ++ marks_by looks.now port newer.now row.now) }
 {
-    push(text, mark_by(looks.first, port, newer, row))?;
-    push(text, mark_by(looks.second, port, newer, row))
+    push_mark(text, mark_by(looks.first, port, newer, row))?;
+    push_mark(text, mark_by(looks.second, port, newer, row))
 }
 
 /// What is looked for among the rows of an event: of one without a line nothing.
-pub(crate) fn looks_for(line: Option<u32>, rule: u8, letter: Letter) -> Looks
+pub fn looks_for(line: Option<u32>, rule: u8, letter: Letter) -> Looks
     ensures { result ≡ looks_for line rule letter }
 {
     match line {

@@ -1,6 +1,6 @@
 // The rows that are kept of a line.
-ghost use Rattle.std.specs.Prelude.{◌≡◌, ◌∷◌, List, OnOk, take};
-ghost use Rattle.ace_journal.specs.Rows.{continues, extended, is_alike, is_alone, is_kept, joins, put_row};
+ghost use Rattle.std.specs.Prelude.{◌≡◌, ◌+◌, ◌<◌, ◌∷◌, List, OnOk, take};
+ghost use Rattle.ace_journal.specs.Rows.{behind, continues, earlier_than, extended, is_alike, is_alone, is_kept, joins, put_row};
 
 use ace_event::Event;
 use ace_event_words::{Deed, Kind};
@@ -16,6 +16,9 @@ pub const MOST_ROWS: usize = 16;
 pub struct Row {
     pub first: u64,
     pub last: u64,
+    /// How many events of its line came before the first of it, of those that are kept: 0 of a row
+    /// that no journal has heard.
+    pub before: u64,
     pub deed: Deed,
 }
 
@@ -23,6 +26,8 @@ pub struct Row {
 #[derive(Drop)]
 pub struct Rows {
     pub(crate) kept: VecDeque<Row>,
+    /// How many events of the line were heard, of those that are kept.
+    pub(crate) heard: u64,
 }
 
 /// The codes are those of the same kind, on one channel.
@@ -102,7 +107,8 @@ fn joins(rows: &Rows, next: &Row) -> bool
 
 /// The newest row ends at the event of this number.
 fn extend(rows: &mut Rows, last: u64)
-    ensures { rows.new.kept.items ≡ extended last rows.old.kept.items }
+    ensures kept { rows.new.kept.items ≡ extended last rows.old.kept.items }
+    ensures heard { rows.new.heard ≡ rows.old.heard }
 {
     if let Some(newest) = rows.kept.front_mut() {
         newest.last = last;
@@ -111,7 +117,8 @@ fn extend(rows: &mut Rows, last: u64)
 
 /// Adds the next row, and lets go what is older than the last fifteen before it.
 fn add(rows: &mut Rows, next: Row) -> Result<(), NoMemory>
-    ensures { OnOk result (rows.new.kept.items ≡ next ∷ take 15 rows.old.kept.items) }
+    ensures kept { OnOk result (rows.new.kept.items ≡ next ∷ take 15 rows.old.kept.items) }
+    ensures heard { rows.new.heard ≡ rows.old.heard }
 {
     rows.kept.truncate(MOST_ROWS - 1);
     match rows.kept.push_front(next) {
@@ -120,19 +127,34 @@ fn add(rows: &mut Rows, next: Row) -> Result<(), NoMemory>
     }
 }
 
-/// Puts the next row to the last sixteen rows of a list.
+/// Puts the next row to the last sixteen rows of a list, behind the events that were heard.
 ///
 /// # Errors
 ///
 /// `NoMemory` where there is none for it.
 pub(crate) fn put(rows: &mut Rows, next: Row) -> Result<(), NoMemory>
-    ensures { OnOk result ((all : List Row) → rows.old.kept.items ≡ take 16 all
-        → rows.new.kept.items ≡ take 16 (put_row next all)) }
+    ensures kept { OnOk result ((all : List Row) → rows.old.kept.items ≡ take 16 all
+        → rows.new.kept.items ≡ take 16 (put_row (behind rows.old.heard next) all)) }
+    ensures heard { OnOk result (rows.old.heard < next.first
+        → rows.new.heard ≡ rows.old.heard + 1) }
 {
+    let before = rows.heard;
+    rows.heard = before.wrapping_add(1);
     if joins(rows, &next) {
         extend(rows, next.last);
         Ok(())
     } else {
-        add(rows, next)
+        add(rows, Row { before, ..next })
+    }
+}
+
+/// How many events that are kept came before the oldest of these rows, of which the newest is
+/// first.
+pub fn earlier_than(rows: &[Row]) -> u64
+    ensures { result ≡ earlier_than rows.now }
+{
+    match rows.get(rows.len().saturating_sub(1)) {
+        Some(row) => row.before,
+        None => 0,
     }
 }

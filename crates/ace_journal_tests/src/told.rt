@@ -6,6 +6,7 @@ use ace_event_words::{Transfers, deed_of};
 use ace_io::NoMemory;
 use ace_journal::{Journal, Row, push_event_words, push_led};
 use ace_model::Transaction;
+use ace_side_facts::SideFacts;
 use std::alloc::Global;
 
 /// A ReadUnique of port 0.
@@ -26,6 +27,7 @@ fn row(number: u64, event: &Event) -> Row {
     Row {
         first: number,
         last: number,
+        before: 0,
         deed: deed_of(&Some(READ), event),
     }
 }
@@ -56,7 +58,8 @@ fn is_told_of(
     drop(journal);
     heard?;
     let mut text = Vec::new(alloc);
-    push_led(alloc, &mut text, clause.rule, clause.letter, &led)?;
+    let facts = SideFacts::none(alloc);
+    push_led(alloc, &mut text, &facts, clause.rule, clause.letter, &led)?;
     Ok(text.as_slice() == wanted)
 }
 
@@ -87,7 +90,8 @@ fn is_worded(
     let led = journal.led(line, row(1, own), transfers);
     drop(journal);
     let mut text = Vec::new(alloc);
-    push_event_words(&mut text, &led)?;
+    let facts = SideFacts::none(alloc);
+    push_event_words(&mut text, &facts, &led)?;
     Ok(text.as_slice() == wanted)
 }
 
@@ -194,7 +198,7 @@ fn tells_the_events_of_a_line(rt: HostRuntime) {
 fn tells_the_last_sixteen(rt: HostRuntime) {
     let events = [store(); 18];
     let wanted =
-        b"\n  What led here\n            3  D   port 0 stores\n            4  D   port 0 stores\n            5  D   port 0 stores\n            6  D   port 0 stores\n            7  D   port 0 stores\n            8  D   port 0 stores\n            9  D   port 0 stores\n           10  D   port 0 stores\n           11  D   port 0 stores\n           12  D   port 0 stores\n           13  D   port 0 stores\n           14  D   port 0 stores\n           15  D   port 0 stores\n           16  D   port 0 stores\n           17  D   port 0 stores\n           18  D   port 0 stores\n  >        19  AR  port 0 asks for ReadUnique, identifier 3, exclusive\n";
+        b"\n  What led here\n          ...  2 earlier events without a line\n            3  D   port 0 stores\n            4  D   port 0 stores\n            5  D   port 0 stores\n            6  D   port 0 stores\n            7  D   port 0 stores\n            8  D   port 0 stores\n            9  D   port 0 stores\n           10  D   port 0 stores\n           11  D   port 0 stores\n           12  D   port 0 stores\n           13  D   port 0 stores\n           14  D   port 0 stores\n           15  D   port 0 stores\n           16  D   port 0 stores\n           17  D   port 0 stores\n           18  D   port 0 stores\n  >        19  AR  port 0 asks for ReadUnique, identifier 3, exclusive\n";
     assert!(rt; matches!(is_told(rt.alloc(), None, &events, &ar(), wanted), Ok(true)));
 }
 

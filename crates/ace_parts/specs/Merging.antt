@@ -10,9 +10,10 @@ use Rattle.ace_batch.specs.declared.entry.Entry.{Entry}
 abbrev pub texts_of : List (Bor (List ℕ)) → List (List ℕ)
 texts_of texts = map (λ text. text.now) texts
 
--- What is written of the results of part K of so many parts of this list.
+-- What is written of the results of part K of so many parts of this list, where all of its traces
+-- were looked at.
 abbrev pub part_text : ℕ → ℕ → List Entry → List ℕ
-part_text part parts entries = results_json part parts (part_of part parts entries)
+part_text part parts entries = results_json part parts 0 (part_of part parts entries)
 
 -- The texts are what is written of the results of the parts of this list, each of them once: they
 -- are as many as there are parts, and what is written of each part is among them.

@@ -60,6 +60,16 @@ impl<'a> Cursor<'a> {
         true
     }
 
+    /// Takes these bytes if all of them come next, and says whether they do.
+    pub(crate) fn skip_whole(&mut self, front: &[u8]) -> bool {
+        let rest = &self.bytes[self.place.min(self.bytes.len())..];
+        let comes = rest.starts_with(front);
+        if comes {
+            self.place = self.place.saturating_add(front.len());
+        }
+        comes
+    }
+
     /// Takes the digits that come next, as a number.
     pub(crate) fn number(&mut self) -> u64 {
         let mut number = 0u64;

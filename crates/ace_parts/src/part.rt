@@ -1,6 +1,6 @@
 use ace_batch::{Entry, Shard};
 
-/// The results of a part of a list of traces.
+/// The results of a part of a list of traces, all of which were looked at.
 #[derive(Drop)]
 pub struct Part {
     /// Which part.
@@ -16,6 +16,8 @@ pub enum PartErr {
     Cut,
     /// This line, counted from 1, is the first that can be none of them.
     Wrong { line: u64 },
+    /// So many traces of the part were not looked at.
+    Left { count: u64 },
     /// There was no memory for them.
     NoMemory,
 }

@@ -79,13 +79,30 @@ fn take_entries(alloc: Global, cursor: &mut Cursor<'_>, count: u64) -> Result<Ve
     Ok(entries)
 }
 
-/// Takes the last line, and says whether it ends the text.
+/// Takes what stands behind the front of the last line, and says whether it ends the text.
 fn take_end(cursor: &mut Cursor<'_>) -> bool {
-    if !cursor.skip(b"{\"end\":") {
+    if !cursor.skip(b"end\":") {
         return false;
     }
     let _count = cursor.number();
     cursor.skip(b"}\n") && cursor.is_at_end()
+}
+
+/// Takes the last line, behind so many others.
+fn take_tail(cursor: &mut Cursor<'_>, lines: u64) -> Result<(), PartErr> {
+    if !cursor.skip(b"{\"") {
+        return Err(wrong_at(cursor, lines));
+    }
+    if cursor.skip(b"left\":") {
+        return Err(PartErr::Left {
+            count: cursor.number(),
+        });
+    }
+    if take_end(cursor) {
+        Ok(())
+    } else {
+        Err(wrong_at(cursor, lines))
+    }
 }
 
 /// What the text may be the results of.
@@ -95,33 +112,31 @@ fn take_part(alloc: Global, bytes: &[u8]) -> Result<Part, PartErr> {
         return Err(wrong_at(&cursor, 0));
     };
     let entries = take_entries(alloc, &mut cursor, head.count)?;
-    if take_end(&mut cursor) {
-        Ok(Part {
-            shard: head.shard,
-            entries,
-        })
-    } else {
-        Err(wrong_at(&cursor, head.count.saturating_add(1)))
-    }
+    take_tail(&mut cursor, head.count.saturating_add(1))?;
+    Ok(Part {
+        shard: head.shard,
+        entries,
+    })
 }
 
 /// The text of the results of the part.
 fn text_of(alloc: Global, part: &Part) -> Result<Vec<u8>, NoMemory>
     ensures { IfOk result (λ text. text.items ≡ results_json part.now.shard.part
-        part.now.shard.parts part.now.entries.items) }
+        part.now.shard.parts 0 part.now.entries.items) }
 {
     let mut text = Vec::new(alloc);
-    push_results(&mut text, &part.shard, part.entries.as_slice())?;
+    push_results(&mut text, &part.shard, 0, part.entries.as_slice())?;
     Ok(text)
 }
 
-/// The part whose results the text is, which holds nothing else.
+/// The part whose results the text is, which holds nothing else, where all of its traces were looked
+/// at.
 ///
 /// # Errors
 ///
 /// Why it is none; a text that reads as results and isn't written so is wrong in its first line.
 pub fn read_part(alloc: Global, bytes: &[u8]) -> Result<Part, PartErr>
-    ensures { IfOk result (λ part. bytes.now ≡ results_json part.shard.part part.shard.parts
+    ensures { IfOk result (λ part. bytes.now ≡ results_json part.shard.part part.shard.parts 0
         part.entries.items) }
 {
     let part = take_part(alloc, bytes)?;

@@ -1,4 +1,4 @@
 mod Stays
 mod Kept
-mod Writes
+pub mod Writes
 mod Hearing

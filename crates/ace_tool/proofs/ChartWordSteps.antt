@@ -2,6 +2,7 @@
 use Rattle.std.proofs.Common.{◌≡◌, ◌<◌, ◌+◌, ◌∷◌, ℕ, List, [], String, None, Some, length, map, string_bytes, drop, get_or, refl, ◌∙◌, ap, subst, sym}
 use Rattle.std.proofs.lemmas.List.{drop_more}
 use Rattle.std.specs.declared.alloc.Global.{Global}
+use Rattle.ace_tool.specs.Asked.{side_said}
 use Rattle.ace_tool.specs.ChartAsked.{AsksChart, ChartAsked, ChartSoFar, IsChartAsked, nothing_to_draw, with_drawn, with_drawn_all}
 use Rattle.ace_chart_rows.specs.declared.selection.Selection.{Selection}
 use Rattle.ace_tool.specs.ChartOptions.{AreRows, line_said}
@@ -56,4 +57,10 @@ no_rows asked chart none is = none chart.rows is.rows
 pub no_selection : (asked : ChartSoFar) (chart : ChartAsked) → ((s : Selection) → ¬ Selects asked.given s) → ¬ IsChartAsked asked chart
 no_selection asked chart none is = none chart.selection is.selection
 
-pub ruleset refusals = (no_line, no_rows, no_selection)
+-- or for the side file
+pub no_side : (asked : ChartSoFar) (chart : ChartAsked) → side_said asked.given.side asked.given.no_side ≡ None → ¬ IsChartAsked asked chart
+no_side asked chart none is =
+    let bad : None ≡ Some chart.side = sym none ∙ is.side in
+    absurd (cc)
+
+pub ruleset refusals = (no_line, no_rows, no_selection, no_side)

@@ -20,4 +20,9 @@ eight_pieces a b c d e f g h =
     ∙ seven_pieces a b c d e f (g ++ h)
     ∙ sym (append_assoc ((a ++ b) ++ (c ++ d ++ e ++ f)) g h)
 
+-- three pieces and a line feed
+pub line_pieces : (a b c d : List ℕ) → a ++ (b ++ (c ++ (d ++ []))) ≡ a ++ b ++ c ++ d
+line_pieces a b c d =
+    ap (λ t. a ++ (b ++ (c ++ t))) (append-nil d) ∙ sym (append_assoc a b (c ++ d)) ∙ sym (append_assoc (a ++ b) c d)
+
 pub ruleset lines = (append-nil)

@@ -8,9 +8,10 @@ use Rattle.ace_tool.specs.Asked.{AreOptions, Asked, AsksCheck, CheckAsked, IsChe
 use Rattle.ace_tool.specs.Options.{Given}
 use Rattle.ace_pages.proofs.OtherWords.{hyphen_names_no_page}
 use Rattle.ace_pages.specs.Told.{pages_told}
-use Rattle.ace_tool.specs.ExplainAsked.{ExplainAsked, explain_asked}
+use Rattle.ace_tool.specs.ExplainAsked.{AsksExplain, ExplainAsked, ExplainSoFar, IsExplain}
 use Rattle.ace_tool.specs.Requests.{Asks, Wish, Help, HelpOfCheck, HelpOfExplain, HelpOfRule, Version, Check, Explain, Pages}
 use Rattle.ace_tool.specs.declared.check_options.EndRules.{EndRules}
+use Rattle.ace_tool.specs.declared.explain_words.Form.{Form}
 
 pub same_number : (word : List ℕ) (n m : ℕ) → IsNumber word n → IsNumber word m → n ≡ m
 same_number word n m one other =
@@ -51,8 +52,22 @@ no_help : (check : CheckAsked) → ¬ AsksCheck (codes "--help" ∷ []) check
 no_help check (asked, is, checks) = absurd (cc)
 
 -- nor of `explain`
-no_help_explained : (asked : ExplainAsked) → ¬ (explain_asked (codes "--help" ∷ []) ≡ Some asked)
-no_help_explained asked is = cc
+no_help_explained : (explain : ExplainAsked) → ¬ AsksExplain (codes "--help" ∷ []) explain
+no_help_explained explain (asked, is, right) = absurd (cc)
+
+abbrev explain_by : List ℕ → Form → Options → ExplainAsked
+explain_by trace form options = record { trace = trace; form = form; options = options }
+
+same_explain : (asked : ExplainSoFar) (a b : ExplainAsked) → IsExplain asked a → IsExplain asked b → a ≡ b
+same_explain asked a b one other =
+    ap (λ trace. explain_by trace a.form a.options) (some_is a.trace b.trace (sym one.check.named ∙ other.check.named))
+    ∙ ap (λ form. explain_by b.trace form a.options) (one.form ∙ sym other.form)
+    ∙ ap (explain_by b.trace b.form) (same_options asked.check.given a.options b.options one.check.options other.check.options)
+
+same_explained : (words : List (List ℕ)) (a b : ExplainAsked) → AsksExplain words a → AsksExplain words b → a ≡ b
+same_explained words a b (one, is, explains) (other, also, explains') =
+    let same : one ≡ other = some_is one other (sym is ∙ also) in
+    same_explain other a b (subst (λ asked. IsExplain asked a) same explains) explains'
 
 -- nor the name of a page
 no_help_page : (text : List ℕ) → ¬ (pages_told (codes "--help" ∷ []) ≡ Some text)
@@ -87,7 +102,7 @@ one_wish words HelpOfExplain HelpOfRule is also = absurd (cc)
 one_wish words HelpOfExplain Version is also = absurd (cc)
 one_wish words HelpOfExplain (Check check') is (rest', also, asks') = absurd (cc)
 one_wish words HelpOfExplain (Explain asked') is (rest', also, asks') =
-    absurd (no_help_explained asked' (subst (λ w. explain_asked w ≡ Some asked') (rest_is (codes "explain") words rest' (codes "--help" ∷ []) also is) asks'))
+    absurd (no_help_explained asked' (subst (λ w. AsksExplain w asked') (rest_is (codes "explain") words rest' (codes "--help" ∷ []) also is) asks'))
 one_wish words HelpOfExplain (Pages text') is (rest', also, asks') = absurd (cc)
 one_wish words HelpOfRule Help is also = absurd (cc)
 one_wish words HelpOfRule HelpOfCheck is also = absurd (cc)
@@ -120,13 +135,13 @@ one_wish words (Check check) (Pages text') (rest, is, asks) (rest', also, asks')
 one_wish words (Explain asked) Help (rest, is, asks) also = absurd (cc)
 one_wish words (Explain asked) HelpOfCheck (rest, is, asks) also = absurd (cc)
 one_wish words (Explain asked) HelpOfExplain (rest, is, asks) also =
-    absurd (no_help_explained asked (subst (λ w. explain_asked w ≡ Some asked) (rest_is (codes "explain") words rest (codes "--help" ∷ []) is also) asks))
+    absurd (no_help_explained asked (subst (λ w. AsksExplain w asked) (rest_is (codes "explain") words rest (codes "--help" ∷ []) is also) asks))
 one_wish words (Explain asked) HelpOfRule (rest, is, asks) also = absurd (cc)
 one_wish words (Explain asked) Version (rest, is, asks) also = absurd (cc)
 one_wish words (Explain asked) (Check check') (rest, is, asks) (rest', also, asks') = absurd (cc)
 one_wish words (Explain asked) (Explain asked') (rest, is, asks) (rest', also, asks') =
     let same : rest ≡ rest' = rest_is (codes "explain") words rest rest' is also in
-    ap Explain (some_is asked asked' (sym (subst (λ w. explain_asked w ≡ Some asked) same asks) ∙ asks'))
+    ap Explain (same_explained rest' asked asked' (subst (λ w. AsksExplain w asked) same asks) asks')
 one_wish words (Explain asked) (Pages text') (rest, is, asks) (rest', also, asks') = absurd (cc)
 one_wish words (Pages text) Help (rest, is, asks) also = absurd (cc)
 one_wish words (Pages text) HelpOfCheck (rest, is, asks) also = absurd (cc)

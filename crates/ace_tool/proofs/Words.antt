@@ -5,7 +5,7 @@ use Rattle.std.proofs.lemmas.List.{drop_more}
 use Rattle.std.specs.declared.alloc.Global.{Global}
 use Rattle.ace_tool.specs.Asked.{Asked, AsksCheck, CheckAsked, IsChecked, nothing, with_all, with_more}
 use Rattle.ace_pages.specs.Told.{pages_told}
-use Rattle.ace_tool.specs.ExplainAsked.{ExplainAsked, explain_asked}
+use Rattle.ace_tool.specs.ExplainAsked.{AsksExplain, ExplainAsked}
 use Rattle.ace_tool.specs.Requests.{Asks, Wish, Help, HelpOfCheck, HelpOfExplain, HelpOfRule, Version, Check, Explain, Pages}
 
 -- behind a word that is wrong nothing is asked
@@ -117,8 +117,8 @@ no_check_wish words (Explain asked) help none (rest, is, asks) = absurd (cc)
 no_check_wish words (Pages text) help none (rest, is, asks) = absurd (cc)
 
 -- words behind `explain` that ask for no explanation, and no help
-pub no_explain_wish : (words : List (List ℕ)) (wish : Wish) → words ≢ codes "--help" ∷ [] → explain_asked words ≡ None
-    → ¬ Asks (codes "explain" ∷ words) wish
+pub no_explain_wish : (words : List (List ℕ)) (wish : Wish) → words ≢ codes "--help" ∷ []
+    → ((explain : ExplainAsked) → ¬ AsksExplain words explain) → ¬ Asks (codes "explain" ∷ words) wish
 no_explain_wish words Help help none asks = absurd (cc)
 no_explain_wish words HelpOfCheck help none asks = absurd (cc)
 no_explain_wish words HelpOfExplain help none asks = help (cc)
@@ -127,8 +127,7 @@ no_explain_wish words Version help none asks = absurd (cc)
 no_explain_wish words (Check check) help none (rest, is, asks) = absurd (cc)
 no_explain_wish words (Explain asked) help none (rest, is, asks) =
     let same : rest ≡ words = cc in
-    let bad : None ≡ Some asked = sym none ∙ subst (λ w. explain_asked w ≡ Some asked) same asks in
-    absurd (cc)
+    none asked (subst (λ w. AsksExplain w asked) same asks)
 no_explain_wish words (Pages text) help none (rest, is, asks) = absurd (cc)
 
 -- words behind `rule` that name no pages, and ask for no help

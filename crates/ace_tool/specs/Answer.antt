@@ -5,7 +5,7 @@ use Rattle.ace_call.specs.Output.{AppendsParts}
 use Rattle.ace_convert.specs.Output.{AppendsPart}
 use Rattle.ace_tool.specs.Held.{Held}
 use Rattle.ace_tool.specs.Outcome.{ChecksAll, ChecksSome}
-use Rattle.ace_tool.specs.Explaining.{Explains, ExplainsPart}
+use Rattle.ace_tool.specs.Beside.{Explains, ExplainsPart}
 use Rattle.ace_tool.specs.Requests.{Asks, Check, Explain, Help, HelpOfCheck, HelpOfExplain, HelpOfRule, Pages, Version, Wish}
 use Rattle.ace_tool.specs.Texts.{check_help, explain_help, help, rule_help, version}
 

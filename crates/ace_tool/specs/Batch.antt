@@ -1,10 +1,10 @@
 -- What a batch leaves.
-use Rattle.std.specs.Prelude.{◌≡◌, ◌≢◌, ◌⊎◌, ℕ, List, [], ◌∷◌, Option, None, Some, codes}
+use Rattle.std.specs.Prelude.{◌≡◌, ◌≢◌, ◌⊎◌, ◌-◌, ℕ, length, List, [], ◌∷◌, Option, None, Some, codes}
 use Rattle.std.specs.Io.KnownBytes.{Appends}
-use Rattle.std.specs.List.{AllZip}
 use Rattle.ace_batch.specs.Counts.{status_of_all}
 use Rattle.ace_batch.specs.Json.{results_json}
 use Rattle.ace_batch.specs.Junit.{junit_text}
+use Rattle.ace_batch.specs.Looked.{AreLookedAt}
 use Rattle.ace_batch.specs.Summaries.{told_text}
 use Rattle.ace_batch.specs.declared.entry.Entry.{Entry}
 use Rattle.ace_tool.specs.BatchAsked.{AsksBatch, BatchAsked}
@@ -23,13 +23,15 @@ abbrev pub WritesIf : Option (List ℕ) → List ℕ → Log → Log → Type 0
 WritesIf None text written written' = WritesNone written written'
 WritesIf (Some name) text written written' = Writes written written' name text
 
--- These are the results of the traces that are asked for: one for each, in their order, that is
--- right of what the files hold.
+-- These are the results of the traces that are asked for and are looked at: one for each, in their
+-- order, that is right of what the files hold; and so many are left, which are not.
 pub record AreResults (asked : BatchAsked) (holds knows : List ℕ → Held) (input : Option (List ℕ))
-    (entries : List Entry) : Type 0 where
+    (entries : List Entry) (left : ℕ) : Type 0 where
   pub paths : List (List ℕ)
   pub asked_for : AreAsked asked holds input paths
-  pub right : AllZip (λ path e. IsResult asked.options knows path e) paths entries
+  pub right : AreLookedAt asked.extras.fail_fast
+      (λ path e. IsResult asked.options knows path e) paths entries
+  pub others : left ≡ length paths - length entries
 
 -- The files that were asked for were written.
 abbrev pub WritesBoth : BatchAsked → List ℕ → List ℕ → Log → Log → Type 0
@@ -43,14 +45,15 @@ abbrev pub TellsTexts : BatchAsked → List ℕ → List ℕ → List ℕ
 TellsTexts asked told json junit out out' written written' =
     Appends out out' told × WritesBoth asked json junit written written'
 
--- The batch was done, and the status is that of all of its traces.
+-- The batch was done, and the status is that of all of its traces that were looked at.
 pub record IsDone (holds knows : List ℕ → Held) (asked : BatchAsked)
     (input out out' : Option (List ℕ))
     (written written' : Log) (status : ℕ) : Type 0 where
   pub entries : List Entry
-  pub results : AreResults asked holds knows input entries
-  pub told : TellsTexts asked (told_text asked.extras.failed entries)
-      (results_json asked.extras.part asked.extras.parts entries)
+  pub left : ℕ
+  pub results : AreResults asked holds knows input entries left
+  pub told : TellsTexts asked (told_text asked.extras.failed left entries)
+      (results_json asked.extras.part asked.extras.parts left entries)
       (junit_text entries) out out' written
       written'
   pub total : status ≡ status_of_all entries

@@ -3,13 +3,13 @@ use Rattle.std.specs.Prelude.{◌≡◌, ◌≤◌, ◌<◌, ◌==◌, ℕ, Bool
 use Rattle.std.specs.List.{after_first, before_first, position_or_len}
 use Rattle.ace_call.specs.Number.{IsNumber}
 use Rattle.ace_tool.specs.declared.batch_options.BatchFlag.{BatchFlag}
-use Rattle.ace_tool.specs.declared.batch_options.BatchFlag.TheVariants.{Failed}
+use Rattle.ace_tool.specs.declared.batch_options.BatchFlag.TheVariants.{Failed, FailFast}
 use Rattle.ace_tool.specs.declared.batch_options.BatchValued.{BatchValued}
 use Rattle.ace_tool.specs.declared.batch_options.BatchValued.TheVariants as option
 
 -- those that stand alone
 abbrev pub batch_flags : List (List ℕ × BatchFlag)
-batch_flags = (codes "--failed", Failed) ∷ []
+batch_flags = (codes "--failed", Failed) ∷ (codes "--fail-fast", FailFast) ∷ []
 
 -- those that have a value, which is the next word or stands behind `=`
 abbrev pub batch_valued : List (List ℕ × BatchValued)
@@ -25,6 +25,7 @@ pub record Extras : Type 0 where
   pub junit : Option (List ℕ)
   pub json : Option (List ℕ)
   pub failed : Bool
+  pub fail_fast : Bool
 
 abbrev pub no_extras : Extras
 no_extras = record {
@@ -34,11 +35,13 @@ no_extras = record {
   junit = None;
   json = None;
   failed = false;
+  fail_fast = false;
 }
 
 -- one more that stands alone, which may be given again
 abbrev pub with_batch_flag : BatchFlag → Extras → Extras
 with_batch_flag Failed extras = record extras { failed = true }
+with_batch_flag FailFast extras = record extras { fail_fast = true }
 
 -- one more with a value, which can be given once
 abbrev pub with_batch_value : BatchValued → List ℕ → Extras → Option Extras
@@ -85,6 +88,7 @@ pub record SaidExtras : Type 0 where
   pub junit : Option (List ℕ)
   pub json : Option (List ℕ)
   pub failed : Bool
+  pub fail_fast : Bool
 
 -- They say this.
 pub record AreExtras (given : Extras) (said : SaidExtras) : Type 0 where
@@ -94,3 +98,4 @@ pub record AreExtras (given : Extras) (said : SaidExtras) : Type 0 where
   pub junit_said : said.junit ≡ given.junit
   pub json_said : said.json ≡ given.json
   pub failed_said : said.failed ≡ given.failed
+  pub fail_fast_said : said.fail_fast ≡ given.fail_fast

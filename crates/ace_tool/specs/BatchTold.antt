@@ -23,6 +23,7 @@ said_of o = record {
   junit = option_map (λ name. name.now) o.junit;
   json = option_map (λ name. name.now) o.json;
   failed = o.failed;
+  fail_fast = o.fail_fast;
 }
 
 abbrev pub batch_of : BatchCall → BatchAsked

@@ -4,7 +4,7 @@ use Rattle.std.specs.List.{after_first, before_first}
 use Rattle.std.specs.Map.{lookup}
 use Rattle.ace_chart_rows.specs.declared.selection.Selection.{Selection}
 use Rattle.ace_drawing.specs.declared.line_choice.LineChoice.{LineChoice}
-use Rattle.ace_tool.specs.Asked.{has_hyphen, is_input}
+use Rattle.ace_tool.specs.Asked.{SideAsked, has_hyphen, is_input, side_said}
 use Rattle.ace_tool.specs.ChartOptions.{AreRows, ChartGiven, chart_valued, line_said, no_chart_options, with_chart_value}
 use Rattle.ace_tool.specs.ChartSelected.{Selects}
 use Rattle.ace_tool.specs.ExplainAsked.{some_trace}
@@ -38,7 +38,7 @@ abbrev pub with_drawn_option : Option ChartValued → ChartSoFar → Option Char
 with_drawn_option None a = None
 with_drawn_option (Some option) a = Some (record a { waiting = Some option })
 
--- an option
+-- an option that has a value
 abbrev pub with_drawn_valued : List ℕ → ChartSoFar → Option ChartSoFar
 with_drawn_valued word a =
     if has_equals word
@@ -46,12 +46,19 @@ with_drawn_valued word a =
     (after_first (λ b. b == 61) word) a
     else with_drawn_option (lookup (bytes_eq word) chart_valued) a
 
+-- the same, or `--no-side`, which has no value
+abbrev pub with_drawn_hyphen : List ℕ → ChartSoFar → Option ChartSoFar
+with_drawn_hyphen word a =
+    if bytes_eq word (codes "--no-side")
+    then Some (record a { given = record a.given { no_side = true } })
+    else with_drawn_valued word a
+
 -- A word that is no value. Before `--` those that begin with `-` are options, but `-` is a name.
 abbrev pub with_drawn_word : List ℕ → ChartSoFar → Option ChartSoFar
 with_drawn_word word a =
     if a.names_only then with_drawn_name word a
     else if bytes_eq word (codes "--") then Some (record a { names_only = true })
-    else if has_hyphen word && not (is_input word) then with_drawn_valued word a
+    else if has_hyphen word && not (is_input word) then with_drawn_hyphen word a
     else with_drawn_name word a
 
 -- What is asked with one more word, by the option that waits; none where it is wrong there.
@@ -69,7 +76,7 @@ with_drawn_all a [] = a
 with_drawn_all a (word ∷ rest) = with_drawn_all (option_and_then (with_drawn word) a) rest
 
 -- What `chart` is asked: of which trace, of which line and which events of it, in how many rows,
--- under which title, and into which file; without one it is told.
+-- under which title, with which side file, and into which file; without one it is told.
 pub record ChartAsked : Type 0 where
   pub trace : List ℕ
   pub out : Option (List ℕ)
@@ -77,6 +84,7 @@ pub record ChartAsked : Type 0 where
   pub rows : ℕ
   pub selection : Selection
   pub title : Option (List ℕ)
+  pub side : SideAsked
 
 -- It is asked to do this, where its words are right.
 pub record IsChartAsked (asked : ChartSoFar) (chart : ChartAsked) : Type 0 where
@@ -87,6 +95,7 @@ pub record IsChartAsked (asked : ChartSoFar) (chart : ChartAsked) : Type 0 where
   pub rows : AreRows asked.given.rows chart.rows
   pub selection : Selects asked.given chart.selection
   pub title : chart.title ≡ asked.given.title
+  pub side : side_said asked.given.side asked.given.no_side ≡ Some chart.side
 
 -- The words behind `chart` ask it to do this.
 abbrev pub AsksChart : List (List ℕ) → ChartAsked → Type 0

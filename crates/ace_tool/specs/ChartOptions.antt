@@ -1,5 +1,5 @@
 -- The options of `chart`, by their words.
-use Rattle.std.specs.Prelude.{◌≡◌, ◌-◌, ◌%◌, ◌^◌, ◌&&◌, ℕ, if◌then◌else◌, List, [], ◌∷◌, length, nat_le, nat_lt, Option, None, Some, is_some, codes, bytes_eq, option_and_then}
+use Rattle.std.specs.Prelude.{◌≡◌, ◌-◌, ◌%◌, ◌^◌, ◌&&◌, ℕ, Bool, false, if◌then◌else◌, List, [], ◌∷◌, length, nat_le, nat_lt, Option, None, Some, is_some, codes, bytes_eq, option_and_then}
 use Rattle.ace_drawing.specs.declared.line_choice.LineChoice.{LineChoice}
 use Rattle.ace_drawing.specs.declared.line_choice.LineChoice.TheVariants.{Chosen, All, Line}
 use Rattle.ace_grammar.specs.Fields.{digits_onto}
@@ -12,9 +12,10 @@ abbrev pub chart_valued : List (List ℕ × ChartValued)
 chart_valued =
     (codes "-o", option.Out) ∷ (codes "--line", option.Line) ∷ (codes "--rows", option.Rows)
     ∷ (codes "--events", option.Events) ∷ (codes "--around", option.Around)
-    ∷ (codes "--port", option.Port) ∷ (codes "--title", option.Title) ∷ []
+    ∷ (codes "--port", option.Port) ∷ (codes "--title", option.Title)
+    ∷ (codes "--side", option.Side) ∷ []
 
--- the options that were given, with their values as they stand
+-- the options that were given, with their values as they stand, and whether `--no-side` was
 pub record ChartGiven : Type 0 where
   pub out : Option (List ℕ)
   pub line : Option (List ℕ)
@@ -23,6 +24,8 @@ pub record ChartGiven : Type 0 where
   pub around : Option (List ℕ)
   pub port : Option (List ℕ)
   pub title : Option (List ℕ)
+  pub side : Option (List ℕ)
+  pub no_side : Bool
 
 abbrev pub no_chart_options : ChartGiven
 no_chart_options = record {
@@ -33,6 +36,8 @@ no_chart_options = record {
   around = None;
   port = None;
   title = None;
+  side = None;
+  no_side = false;
 }
 
 -- one more, which can be given once
@@ -51,6 +56,8 @@ with_chart_value option.Port value given =
     if is_some given.port then None else Some (record given { port = Some value })
 with_chart_value option.Title value given =
     if is_some given.title then None else Some (record given { title = Some value })
+with_chart_value option.Side value given =
+    if is_some given.side then None else Some (record given { side = Some value })
 
 -- the line that holds an address
 abbrev pub line_at : ℕ → Option LineChoice

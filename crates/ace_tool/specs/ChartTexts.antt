@@ -10,6 +10,7 @@ use Rattle.ace_explanation.specs.declared.explanation.Explanation.{Explanation}
 use Rattle.ace_explanation.specs.declared.explanation.Explanation.TheVariants.{Refused}
 use Rattle.ace_explanation.specs.declared.refusal.Refusal.{Refusal}
 use Rattle.ace_pages.specs.Pages.{page_name}
+use Rattle.ace_side_facts.specs.declared.facts.SideFacts.{SideFacts}
 use Rattle.ace_tool.specs.Explaining.{told_name}
 use Rattle.ace_tool.specs.Packing.{advice_of}
 use Rattle.ace_explanation.specs.Texts.{verdict_text}
@@ -18,7 +19,7 @@ use Rattle.ace_tool.specs.declared.packing.Packing.{Packing}
 
 abbrev pub chart_help : List ℕ
 chart_help =
-    codes "usage: acetool chart [OPTION].. [--] [FILE]\n\nDraws a sequence chart of one line of the trace, as SVG: the ports, the interconnect and memory, the\nmessages between them in their order, and beside them which port has the line in which state. Of a\nrefused trace it is the line of the refused event, up to that event, with what is wrong below it; of\nanother the first line.\n\n  -o FILE          the picture is written into FILE; else it is told\n  --line ADDRESS   the line of this address, in hexadecimal digits; `all` draws each event\n  --events A..B    of these the events from number A to number B alone\n  --around N       as --events from 20 before event N to 20 behind it\n  --port P,..      of these the events of these ports alone\n  --rows N         N rows at most before a refused event; else 400\n  --title TEXT     the picture is called so, and not as the file\n\nstatus: 0 it was drawn, 3 malformed, 4 unreadable, 6 it would have more rows, 7 no memory; 5 an\noutput failed; 2 these words are wrong\n"
+    codes "usage: acetool chart [OPTION].. [--] [FILE]\n\nDraws a sequence chart of one line of the trace, as SVG: the ports, the interconnect and memory, the\nmessages between them in their order, and beside them which port has the line in which state. Of a\nrefused trace it is the line of the refused event, up to that event, with what is wrong below it; of\nanother the first line.\n\n  -o FILE          the picture is written into FILE; else it is told\n  --line ADDRESS   the line of this address, in hexadecimal digits; `all` draws each event\n  --events A..B    of these the events from number A to number B alone\n  --around N       as --events from 20 before event N to 20 behind it\n  --port P,..      of these the events of these ports alone\n  --rows N         N rows at most before a refused event; else 400\n  --title TEXT     the picture is called so, and not as the file\n  --side FILE      the side file, which tells the times of events and the names of ports; else\n                   FILE.side where there is one\n  --no-side        none is read\n\nstatus: 0 it was drawn, 3 it or its side file is malformed, 4 unreadable, 6 it would have more rows,\n7 no memory; 5 an output failed; 2 these words are wrong\n"
 
 -- what is wrong: the clause that is broken by its name
 unfoldable pub wrong_words : Refusal → List ℕ
@@ -59,11 +60,13 @@ abbrev pub heading_of : List ℕ → Option (List ℕ) → List ℕ
 heading_of name None = told_name name
 heading_of name (Some title) = title
 
--- the picture of the trace of this name: the chart under its heading and the verdict
-abbrev pub picture_text : List ℕ → Option (List ℕ) → Chart → Explanation → List ℕ
-picture_text name title c x =
+-- the picture of the trace of this name: the chart under its heading and the verdict, with what its
+-- side file tells
+abbrev pub picture_text : List ℕ → Option (List ℕ) → Chart → Explanation → Option SideFacts
+    → List ℕ
+picture_text name title c x side =
     chart_text c (heading_of name title) (verdict_text (verdict_of x)) (wrong_below x)
-    (kept_below x) (expected_below x) (got_below x)
+    (kept_below x) (expected_below x) (got_below x) side
 
 -- what is noted where the chart would have more rows than so many
 abbrev pub rows_line : List ℕ → ℕ → List ℕ

@@ -8,10 +8,12 @@ use Rattle.ace_tool.specs.ChartTexts.{chart_help, packed_to_draw, rows_line}
 use Rattle.ace_tool.specs.Explaining.{TellsFinding, shut_line}
 use Rattle.ace_tool.specs.Held.{Held, told_of}
 use Rattle.ace_tool.specs.Pictures.{IsPicture}
+use Rattle.ace_tool.specs.Reports.{line_of, status_of_fault}
+use Rattle.ace_tool.specs.declared.report.Report.TheVariants as report
 use Rattle.ace_tool.specs.Shelf.{Writes, WritesNone}
 use Rattle.ace_tool.specs.declared.finding.Finding.TheVariants as finding
 use Rattle.ace_tool.specs.declared.picture.NoPicture.{NoPicture}
-use Rattle.ace_tool.specs.declared.picture.NoPicture.TheVariants.{Explained, TooManyRows, Shut, Compressed}
+use Rattle.ace_tool.specs.declared.picture.NoPicture.TheVariants.{Explained, TooManyRows, BadSide, Shut, Compressed}
 use Rattle.ace_tool.specs.declared.picture.Picture.{Picture}
 use Rattle.ace_tool.specs.declared.picture.Picture.TheVariants.{Drawn, Undrawn}
 
@@ -27,6 +29,9 @@ Notes asked (Explained x) notes notes' status =
     TellsFinding asked.trace true (finding.Explained x) notes notes' status
 Notes asked TooManyRows notes notes' status =
     Appends notes notes' (rows_line asked.trace asked.rows) × (status ≡ 6)
+Notes asked (BadSide fault) notes notes' status =
+    Appends notes notes' (line_of asked.side asked.trace (report.BadSide fault))
+    × (status ≡ status_of_fault fault)
 Notes asked (Shut error) notes notes' status =
     Appends notes notes' (shut_line asked.trace error) × (status ≡ 4)
 Notes asked (Compressed packing) notes notes' status =
@@ -46,7 +51,7 @@ abbrev pub Draws : (List ℕ → Held) → ChartAsked → Option (List ℕ)
     → Option (List ℕ) → Option (List ℕ) → Option (List ℕ) → Option (List ℕ)
     → Log → Log → ℕ → Type 0
 Draws holds asked input out out' notes notes' written written' status =
-    (picture : Picture) × IsPicture asked (is_input asked.trace)
+    (picture : Picture) × IsPicture holds asked (is_input asked.trace)
     (told_of (holds asked.trace)) input picture
     × Shows asked picture out out' notes notes' written written' status
 

@@ -26,3 +26,8 @@ abbrev pub IsTextOfList : (List ℕ → Held) → Option (List ℕ) → Option (
 IsTextOfList holds None input text = text ≡ []
 IsTextOfList holds (Some name) input text =
     IsListText (is_input name) (told_of (holds name)) input text
+
+-- Standard input stays as it is where it isn't the list.
+abbrev pub KeepsInput : Option (List ℕ) → Option (List ℕ) → Option (List ℕ) → Type 0
+KeepsInput None input left = left ≡ input
+KeepsInput (Some name) input left = is_input name ≡ false → left ≡ input

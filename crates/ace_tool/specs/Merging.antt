@@ -28,7 +28,7 @@ pub record IsMerged (holds : List ℕ → Held) (names : List (List ℕ))
   pub entries : List Entry
   pub held : AreTexts holds names texts
   pub parts : ArePartsOf texts entries
-  pub told : Appends out out' (summary_text entries)
+  pub told : Appends out out' (summary_text 0 entries)
   pub total : status ≡ status_of_all entries
 
 -- the status where they aren't: a text is malformed, or a file could not be had, or there was no
@@ -41,7 +41,7 @@ IsFault status = (status ≡ 3) ⊎ (status ≡ 4) ⊎ (status ≡ 7)
 abbrev pub TellsSummary : List Entry → Option (List ℕ) → Option (List ℕ)
     → Option (List ℕ) → Option (List ℕ) → ℕ → Type 0
 TellsSummary entries out out' notes notes' status =
-    (Appends out out' (summary_text entries) × (status ≡ status_of_all entries)
+    (Appends out out' (summary_text 0 entries) × (status ≡ status_of_all entries)
     × Appends notes notes' [])
     ⊎ (IsFault status × Appends out out' [] × ((told : List ℕ) × Appends notes notes' told))
 

@@ -2,7 +2,7 @@
 use Rattle.std.specs.Prelude.{◌≡◌, ℕ, List, [], ◌∷◌, Some, codes}
 use Rattle.ace_pages.specs.Told.{pages_told}
 use Rattle.ace_tool.specs.Asked.{AsksCheck, CheckAsked}
-use Rattle.ace_tool.specs.ExplainAsked.{ExplainAsked, explain_asked}
+use Rattle.ace_tool.specs.ExplainAsked.{AsksExplain, ExplainAsked}
 
 -- what can be asked: the help on all commands or on one, the version, a check, an explanation, or
 -- the text of the pages that tell of rules
@@ -26,7 +26,6 @@ Asks words Version = words ≡ codes "--version" ∷ []
 Asks words (Check check) =
     (rest : List (List ℕ)) × (words ≡ codes "check" ∷ rest) × AsksCheck rest check
 Asks words (Explain explain) =
-    (rest : List (List ℕ)) × (words ≡ codes "explain" ∷ rest)
-    × (explain_asked rest ≡ Some explain)
+    (rest : List (List ℕ)) × (words ≡ codes "explain" ∷ rest) × AsksExplain rest explain
 Asks words (Pages text) =
     (rest : List (List ℕ)) × (words ≡ codes "rule" ∷ rest) × (pages_told rest ≡ Some text)

@@ -9,10 +9,13 @@ use Rattle.ace_explanation.specs.Texts.{explanation_text}
 use Rattle.ace_explanation.specs.declared.explanation.Explanation.TheVariants.{Refused, Malformed}
 use Rattle.ace_grammar.specs.Reasons.{number_of_reason}
 use Rattle.ace_malformed.specs.Sentences.{wrong_sentence as malformed_sentence}
+use Rattle.ace_malformed.specs.Texts.{bad_line_text}
 use Rattle.ace_pages.specs.Pages.{page_name}
 use Rattle.ace_side.specs.Reasons.{number_of_reason as number_of_side_reason}
+use Rattle.ace_side_facts.specs.declared.facts.SideFacts.{SideFacts}
 use Rattle.ace_tool.specs.Asked.{Options}
 use Rattle.ace_tool.specs.Examined.{IsExamined}
+use Rattle.ace_tool.specs.Explaining.{HasNoSide}
 use Rattle.ace_tool.specs.Held.{Held}
 use Rattle.ace_tool.specs.Reports.{report_text}
 use Rattle.ace_tool.specs.declared.finding.Finding.{Finding}
@@ -93,13 +96,12 @@ message_of name (finding.Explained (Refused r)) report = wrong_sentence r.rule r
 message_of name (finding.Explained (Malformed bad)) report = malformed_sentence bad
 message_of name found report = message_of_report name report
 
--- All that is told of it: of a trace that is refused or malformed what `explain` tells, if there is
--- memory, and of another its message.
+-- All that is told of it: of a trace that is refused or malformed what `explain` tells without a
+-- side file, if there is memory, and of another its message.
 abbrev pub IsText : List ℕ → Finding → Report → List ℕ → Type 0
 IsText name (finding.Explained (Refused r)) report text =
-    text ≡ explanation_text name false (Refused r)
-IsText name (finding.Explained (Malformed bad)) report text =
-    text ≡ explanation_text name false (Malformed bad)
+    (f : SideFacts) × HasNoSide f × (text ≡ explanation_text f name false (Refused r))
+IsText name (finding.Explained (Malformed bad)) report text = text ≡ bad_line_text name false bad
 IsText name found report text = text ≡ message_of name found report
 
 -- The entry of a trace, by its name and what is told of it.

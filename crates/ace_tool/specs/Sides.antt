@@ -1,13 +1,11 @@
 -- What is found where the side file of a trace is, and what it says of the recording.
-use Rattle.std.specs.Prelude.{◌≡◌, ◌+◌, ◌⊎◌, ⊤, ℕ, Bool, true, false, if◌then◌else◌, List, ◌++◌, length, Option, None, Some, IfSome, codes}
+use Rattle.std.specs.Prelude.{◌≡◌, ⊤, ℕ, Bool, true, false, if◌then◌else◌, List, ◌++◌, Option, None, Some, IfSome, codes}
 use Rattle.ace_side.specs.Order.{ending}
-use Rattle.ace_side.specs.Reader.{number_behind}
-use Rattle.ace_side.specs.Reading.{Bad, HasBadStart, Reads, Whole}
+use Rattle.ace_side.specs.Reading.{Reads, Whole}
 use Rattle.ace_side.specs.declared.error.SideErr.{SideErr}
 use Rattle.ace_side.specs.declared.error.SideErr.TheVariants as error
 use Rattle.ace_side.specs.declared.line.SideLine.{SideLine}
-use Rattle.ace_side.specs.declared.reason.Reason.{Reason}
-use Rattle.ace_side.specs.declared.reason.Reason.TheVariants.{S1}
+use Rattle.ace_side_facts.specs.Sayings.{HasBadSideLine}
 use Rattle.ace_tool.specs.Asked.{Beside, Named, Nowhere, SideAsked, is_input}
 use Rattle.ace_tool.specs.Held.{Held, may_be_missing, told_of}
 use Rattle.ace_tool.specs.Note.{last_note, text_of}
@@ -22,13 +20,6 @@ abbrev pub place_of : SideAsked → List ℕ → Option (List ℕ × Bool)
 place_of Nowhere name = None
 place_of (Named file) name = Some (file, true)
 place_of Beside name = if is_input name then None else Some (name ++ codes ".side", false)
-
--- the first line of the bytes of a side file that is malformed, with its reason
-abbrev pub HasBadSideLine : List ℕ → ℕ → Reason → Type 0
-HasBadSideLine bytes number reason =
-    ((number ≡ 1) × (reason ≡ S1) × HasBadStart bytes)
-    ⊎ ((past : List SideLine) × Reads bytes past (Bad (length past + 2) reason)
-    × (number ≡ number_behind past))
 
 -- why a side file tells nothing that can't be read on
 abbrev pub fault_of : SideErr → SideFault

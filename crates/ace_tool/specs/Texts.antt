@@ -11,7 +11,7 @@ check_help =
 
 abbrev pub explain_help : List ℕ
 explain_help =
-    codes "usage: acetool explain [--short | --json] [--] [FILE]\n\nSays of the trace what `ace check` says, after FILE:LINE:, and what is wrong there. Of a refused\ntrace it tells the event that is the first to break a rule, and the clause of the rule that is\nbroken.\n\n  --short          the first line alone\n  --json           all that there is to say as a JSON object in one line\n\nstatus: 0 accepted, 1 refused, 3 malformed, 4 unreadable, 7 no memory; 5 the output failed; 2 these\nwords are wrong\n"
+    codes "usage: acetool explain [OPTION].. [--] [FILE]\n\nSays of the trace what `ace check` says, after FILE:LINE:, and what is wrong there. Of a refused\ntrace it tells the event that is the first to break a rule, and the clause of the rule that is\nbroken; and by its side file when events are, what ports and lines are called in the design, and\nwhat is remarked. Of an accepted trace it tells by that whether the recording is whole.\n\n  --short          the first line alone\n  --json           all that there is to say as a JSON object in one line\n  --side FILE      the side file; that of a FILE is else FILE.side, if it is there\n  --no-side        no side file is read\n  --require-end, --allow-cut, --drained, --most-events N, --most-lines N\n                   as of check\n\nstatus: 0 accepted, 1 refused, 3 malformed, 8 unfinished, 6 a limit, 4 unreadable, 7 no memory;\n5 the output failed; 2 these words are wrong\n"
 
 abbrev pub rule_help : List ℕ
 rule_help =

@@ -45,7 +45,11 @@ abbrev pub check_of : CheckCall → CheckAsked
 check_of call = asked_of call.options call.traces.items
 
 abbrev pub explain_of : ExplainCall → ExplainAsked
-explain_of call = record { trace = call.trace.now; form = call.form }
+explain_of call = record {
+  trace = call.trace.now;
+  form = call.form;
+  options = options_of call.options;
+}
 
 abbrev pub wish_of : Request → Wish
 wish_of Help = wish.Help

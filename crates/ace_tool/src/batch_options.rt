@@ -14,6 +14,8 @@ use std::marker::Model;
 pub(crate) enum BatchFlag {
     /// No lines for accepted traces.
     Failed,
+    /// An end with the first trace that isn't accepted.
+    FailFast,
 }
 
 /// An option of `batch` that has a value.
@@ -37,6 +39,7 @@ pub(crate) fn batch_flag_of(word: &str) -> Option<BatchFlag>
 {
     match word {
         "--failed" => Some(BatchFlag::Failed),
+        "--fail-fast" => Some(BatchFlag::FailFast),
         _ => None,
     }
 }
@@ -70,6 +73,8 @@ pub struct ExtraOptions<'a> {
     pub json: Option<&'a str>,
     /// Accepted traces have no lines.
     pub failed: bool,
+    /// The call ends with the first trace, in the order of the list, that isn't accepted.
+    pub fail_fast: bool,
 }
 
 /// The options of `batch` that were given, with their values as they stand.
@@ -81,6 +86,7 @@ pub(crate) struct BatchExtras<'a> {
     junit: Option<&'a str>,
     json: Option<&'a str>,
     failed: bool,
+    fail_fast: bool,
 }
 
 impl<'a> Model for BatchExtras<'a> {
@@ -96,6 +102,7 @@ impl<'a> Model for BatchExtras<'a> {
       junit = option_map (λ word. word.now) e.junit;
       json = option_map (λ word. word.now) e.json;
       failed = e.failed;
+      fail_fast = e.fail_fast;
     } };
 }
 
@@ -180,6 +187,7 @@ impl<'a> BatchExtras<'a> {
             junit: None,
             json: None,
             failed: false,
+            fail_fast: false,
         }
     }
 
@@ -189,6 +197,7 @@ impl<'a> BatchExtras<'a> {
     {
         match flag {
             BatchFlag::Failed => self.failed = true,
+            BatchFlag::FailFast => self.fail_fast = true,
         }
     }
 
@@ -221,6 +230,7 @@ impl<'a> BatchExtras<'a> {
             junit: self.junit,
             json: self.json,
             failed: self.failed,
+            fail_fast: self.fail_fast,
         })
     }
 }

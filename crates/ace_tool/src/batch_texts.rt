@@ -20,6 +20,7 @@ puts the JSON of all parts of a list together, and tells the summary of the whol
   --jobs N         threads that share the work; else as many as there are processors
   --shard K/N      of all of these the traces K, K + N, K + 2N, .. alone
   --failed         no lines for accepted traces
+  --fail-fast      ends with the first trace, in their order, that isn't accepted
   --junit FILE     the results as JUnit XML as well
   --json FILE      the results as JSON, an object a line, as well
   --most-events N  a trace may have N events at most

@@ -1,15 +1,15 @@
 // Checks many traces.
-ghost use Rattle.std.specs.Prelude.{◌≡◌, ◌≢◌, ◌<◌, ◌⊎◌, ◌++◌, map, option_map, string_bytes, IfOk, OnErr, OnOk};
-ghost use Rattle.std.specs.List.{AllZip};
+ghost use Rattle.std.specs.Prelude.{◌≡◌, ◌≢◌, ◌<◌, ◌⊎◌, ◌++◌, ◌-◌, length, map, option_map, string_bytes, IfOk, OnErr, OnOk};
 ghost use Rattle.ace_batch.specs.Json.{results_json};
 ghost use Rattle.ace_batch.specs.Junit.{junit_text};
+ghost use Rattle.ace_batch.specs.Looked.{AreLookedAt};
 ghost use Rattle.ace_batch.specs.Shards.{part_of};
 ghost use Rattle.ace_batch.specs.Summaries.{told_text};
 ghost use Rattle.ace_paths.specs.Lists.{paths_of, texts_of};
 ghost use Rattle.ace_io.specs.Faults.{HasCause, Rose};
 ghost use Rattle.ace_tool.specs.Batch.{AreResults, Batches, DoesBatch, TellsTexts, WritesBoth, WritesIf};
 ghost use Rattle.ace_tool.specs.BatchTold.{batch_of};
-ghost use Rattle.ace_tool.specs.ListTexts.{IsTextOfList};
+ghost use Rattle.ace_tool.specs.ListTexts.{IsTextOfList, KeepsInput};
 ghost use Rattle.ace_tool.specs.Results.{IsResult};
 
 use crate::batch_texts::{batch_help, list_note};
@@ -37,15 +37,24 @@ struct Texts {
     junit: Vec<u8>,
 }
 
+/// The results of the traces that are looked at, in their order, and how many others are asked for.
+#[derive(Drop)]
+struct Looked {
+    entries: Vec<Entry>,
+    left: usize,
+}
+
 /// The text of the list, if one is asked for.
-fn list_text<F: Folder, I: Source>(
+pub(crate) fn list_text<F: Folder, I: Source>(
     alloc: Global,
     files: &F,
     input: &mut I,
     list: Option<&str>,
 ) -> Result<String, ListErr>
-    ensures { IfOk result (λ text. IsTextOfList (F.holds files.now)
+    ensures text { IfOk result (λ text. IsTextOfList (F.holds files.now)
         (option_map (λ n. n.now) list.entry) (I.left input.old) (string_bytes text)) }
+    ensures kept { KeepsInput (option_map (λ n. n.now) list.entry) (I.left input.old)
+        (I.left input.new) }
 {
     match list {
         Some(name) => read_list(alloc, files, input, name),
@@ -54,7 +63,11 @@ fn list_text<F: Folder, I: Source>(
 }
 
 /// The traces that are named, and then those that the text lists.
-fn all_paths<'a>(alloc: Global, named: &[&'a str], list: &'a str) -> Result<Vec<&'a str>, NoMemory>
+pub(crate) fn all_paths<'a>(
+    alloc: Global,
+    named: &[&'a str],
+    list: &'a str,
+) -> Result<Vec<&'a str>, NoMemory>
     ensures { IfOk result (λ paths. texts_of paths.items
         ≡ texts_of named.now ++ paths_of list.entry.now) }
 {
@@ -78,7 +91,7 @@ fn jobs_of(rt: &impl Threads, jobs: Option<u64>) -> usize
     }
 }
 
-/// The results of the traces of the list and of those that are named.
+/// The results of those traces of the list, and of those that are named, that are looked at.
 #[tactic(auto, using(crate::proofs::BatchDone::results_by_texts))]
 fn results_of<X: Checks + Sync>(
     rt: &(impl Threads + Sync),
@@ -86,21 +99,38 @@ fn results_of<X: Checks + Sync>(
     checks: &X,
     call: &BatchCall<'_>,
     list: &str,
-) -> Result<Vec<Entry>, NoMemory>
-    ensures { IfOk result (λ entries. AllZip (λ path e. IsResult (batch_of call.now).options
-        (X.knows checks.now) path e) (part_of call.now.extras.shard.part call.now.extras.shard.parts
-        (texts_of call.now.traces.items ++ paths_of list.now)) entries.items) }
+) -> Result<Looked, NoMemory>
+    ensures right { IfOk result (λ looked. AreLookedAt call.now.extras.fail_fast
+        (λ path e. IsResult (batch_of call.now).options (X.knows checks.now) path e)
+        (part_of call.now.extras.shard.part call.now.extras.shard.parts
+        (texts_of call.now.traces.items ++ paths_of list.now)) looked.entries.items) }
+    ensures others { IfOk result (λ looked. looked.left
+        ≡ length (part_of call.now.extras.shard.part call.now.extras.shard.parts
+        (texts_of call.now.traces.items ++ paths_of list.now)) - length looked.entries.items) }
 {
     let all = all_paths(alloc, call.traces.as_slice(), list)?;
     let paths = call.extras.shard.of(alloc, all.as_slice())?;
     let jobs = jobs_of(rt, call.extras.jobs);
-    match all_results(rt, alloc, checks, &call.options, paths.as_slice(), jobs) {
-        Ok(entries) => Ok(entries),
+    let fail_fast = call.extras.fail_fast;
+    let options = &call.options;
+    match all_results(
+        rt,
+        alloc,
+        checks,
+        options,
+        paths.as_slice(),
+        jobs,
+        fail_fast,
+    ) {
+        Ok(entries) => {
+            let left = paths.len().saturating_sub(entries.len());
+            Ok(Looked { entries, left })
+        }
         Err(NoMemory) => Err(NoMemory),
     }
 }
 
-/// The results of the traces that are asked for.
+/// The results of the traces that are asked for and are looked at.
 #[tactic(auto, using(crate::proofs::BatchDone::are_results))]
 fn run_batch<F: Folder, X: Checks + Sync, I: Source>(
     rt: &(impl Threads + Sync),
@@ -109,27 +139,30 @@ fn run_batch<F: Folder, X: Checks + Sync, I: Source>(
     checks: &X,
     input: &mut I,
     call: &BatchCall<'_>,
-) -> Result<Vec<Entry>, ListErr>
-    ensures { IfOk result (λ entries. AreResults (batch_of call.now) (F.holds files.now)
-        (X.knows checks.now) (I.left input.old) entries.items) }
+) -> Result<Looked, ListErr>
+    ensures { IfOk result (λ looked. AreResults (batch_of call.now) (F.holds files.now)
+        (X.knows checks.now) (I.left input.old) looked.entries.items looked.left) }
 {
     let list = list_text(alloc, files, input, call.extras.list)?;
     match results_of(rt, alloc, checks, call, list.as_str()) {
-        Ok(entries) => Ok(entries),
+        Ok(looked) => Ok(looked),
         Err(NoMemory) => Err(ListErr::NoMemory),
     }
 }
 
 /// What is told of these results.
-fn texts_of(alloc: Global, call: &BatchCall<'_>, entries: &[Entry]) -> Result<Texts, NoMemory>
-    ensures told { IfOk result (λ t. t.told.items ≡ told_text call.now.extras.failed entries.now) }
+fn texts_of(alloc: Global, call: &BatchCall<'_>, looked: &Looked) -> Result<Texts, NoMemory>
+    ensures told { IfOk result (λ t. t.told.items
+        ≡ told_text call.now.extras.failed looked.now.left looked.now.entries.items) }
     ensures json { IfOk result (λ t. t.json.items
-        ≡ results_json call.now.extras.shard.part call.now.extras.shard.parts entries.now) }
-    ensures junit { IfOk result (λ t. t.junit.items ≡ junit_text entries.now) }
+        ≡ results_json call.now.extras.shard.part call.now.extras.shard.parts
+        looked.now.left looked.now.entries.items) }
+    ensures junit { IfOk result (λ t. t.junit.items ≡ junit_text looked.now.entries.items) }
 {
-    let told = told_text(alloc, call.extras.failed, entries)?;
+    let entries = looked.entries.as_slice();
+    let told = told_text(alloc, call.extras.failed, looked.left, entries)?;
     let mut json = Vec::new(alloc);
-    push_results(&mut json, &call.extras.shard, entries)?;
+    push_results(&mut json, &call.extras.shard, looked.left, entries)?;
     let mut junit = Vec::new(alloc);
     push_junit(alloc, &mut junit, entries)?;
     Ok(Texts { told, json, junit })
@@ -203,14 +236,14 @@ fn do_batch<F: Folder, X: Checks + Sync, W: Shelf, I: Source, K: Sink, E: Sink>(
         ⊎ Rose (E.faults notes.old) (E.faults notes.new)
         ⊎ Rose (W.faults shelf.old) (W.faults shelf.new) }
 {
-    let entries = match run_batch(rt, alloc, files, checks, input, call) {
-        Ok(entries) => entries,
+    let looked = match run_batch(rt, alloc, files, checks, input, call) {
+        Ok(looked) => looked,
         Err(ListErr::NoMemory) => return note(notes, "out of memory\n", 7),
         Err(error) => return note(notes, list_note(error), 4),
     };
-    match texts_of(alloc, call, entries.as_slice()) {
+    match texts_of(alloc, call, &looked) {
         Ok(texts) => match tell_texts(shelf, out, call, &texts) {
-            Ok(()) => status_of_all(entries.as_slice()),
+            Ok(()) => status_of_all(looked.entries.as_slice()),
             Err(_) => break_off(notes),
         },
         Err(NoMemory) => note(notes, "out of memory\n", 7),

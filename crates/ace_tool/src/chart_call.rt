@@ -1,6 +1,7 @@
 // What `chart` is asked to do.
 ghost use Rattle.std.specs.Prelude.{◌≤◌};
 
+use crate::check_options::SideChoice;
 use ace_chart_rows::Selection;
 use ace_drawing::LineChoice;
 
@@ -19,5 +20,7 @@ pub struct ChartCall<'a> {
     pub selection: Selection,
     /// What the picture is called; else by the name of the trace.
     pub title: Option<&'a str>,
+    /// Where the side file is.
+    pub side: SideChoice<'a>,
     ghost few: { rows ≤ 1000000 },
 }

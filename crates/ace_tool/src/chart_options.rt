@@ -1,19 +1,21 @@
 // The options of `chart`.
-ghost use Rattle.std.specs.Prelude.{◌≡◌, ◌≤◌, ℕ, bytes_eq, option_map, IfSome, MatchOption};
+ghost use Rattle.std.specs.Prelude.{◌≡◌, ◌≤◌, ℕ, true, bytes_eq, option_map, IfSome, MatchOption};
 ghost use Rattle.std.specs.Map.{lookup};
 ghost use Rattle.ace_tool.specs.ChartOptions.{AreRows, chart_valued, line_at, line_of_digits, line_of_word, line_said, no_chart_options, with_chart_value};
 ghost use Rattle.ace_chart_rows.specs.declared.selection.Selection.{Selection as Selected};
 ghost use Rattle.ace_tool.specs.ChartSelected.{Selects};
-ghost use Rattle.ace_tool.specs.Told.{if_taken};
+ghost use Rattle.ace_tool.specs.Asked.{side_said};
+ghost use Rattle.ace_tool.specs.Told.{if_taken, side_of};
 
 use crate::chart_selected::{ports_said, span_said};
-use crate::options::{keep_once, limit_of};
+use crate::check_options::SideChoice;
+use crate::options::{keep_once, limit_of, side_choice};
 use ace_chart_rows::Selection;
 use ace_drawing::LineChoice;
 use ace_grammar::number_of;
 use std::marker::Model;
 
-/// An option of `chart`, which has a value.
+/// An option of `chart` that has a value.
 #[derive(Clone, Copy)]
 pub(crate) enum ChartValued {
     /// The file for the picture.
@@ -30,6 +32,8 @@ pub(crate) enum ChartValued {
     Port,
     /// What the picture is called.
     Title,
+    /// The side file.
+    Side,
 }
 
 /// The most rows where none are asked for.
@@ -47,6 +51,7 @@ pub(crate) fn chart_valued_of(name: &str) -> Option<ChartValued>
         "--around" => Some(ChartValued::Around),
         "--port" => Some(ChartValued::Port),
         "--title" => Some(ChartValued::Title),
+        "--side" => Some(ChartValued::Side),
         _ => None,
     }
 }
@@ -61,6 +66,8 @@ pub(crate) struct ChartOptions<'a> {
     around: Option<&'a str>,
     port: Option<&'a str>,
     title: Option<&'a str>,
+    side: Option<&'a str>,
+    no_side: bool,
 }
 
 impl<'a> Model for ChartOptions<'a> {
@@ -77,6 +84,8 @@ impl<'a> Model for ChartOptions<'a> {
       around = option_map (λ word. word.now) o.around;
       port = option_map (λ word. word.now) o.port;
       title = option_map (λ word. word.now) o.title;
+      side = option_map (λ word. word.now) o.side;
+      no_side = o.no_side;
     } };
 }
 
@@ -152,6 +161,8 @@ impl<'a> ChartOptions<'a> {
             around: None,
             port: None,
             title: None,
+            side: None,
+            no_side: false,
         }
     }
 
@@ -167,7 +178,15 @@ impl<'a> ChartOptions<'a> {
             ChartValued::Around => keep_once(&mut self.around, value),
             ChartValued::Port => keep_once(&mut self.port, value),
             ChartValued::Title => keep_once(&mut self.title, value),
+            ChartValued::Side => keep_once(&mut self.side, value),
         }
+    }
+
+    /// `--no-side`, which can be given again.
+    pub(crate) fn add_no_side(&mut self)
+        ensures { self.new ≡ record self.old { no_side = true } }
+    {
+        self.no_side = true;
     }
 
     /// The file for the picture.
@@ -201,6 +220,13 @@ impl<'a> ChartOptions<'a> {
         let (first, last) = span_said(self.events, self.around)?;
         let ports = ports_said(self.port)?;
         Some(Selection { first, last, ports })
+    }
+
+    /// Where the side file is, if the words that say it are right.
+    pub(crate) fn side(&self) -> Option<SideChoice<'a>>
+        ensures { option_map side_of result ≡ side_said self.now.side self.now.no_side }
+    {
+        side_choice(self.side, self.no_side)
     }
 
     /// What the picture is called.

@@ -1,6 +1,7 @@
 // The texts of `chart`.
 ghost use Rattle.std.specs.Prelude.{◌≡◌, ◌++◌, option_map, IfOk, OnErr, OnOk};
 ghost use Rattle.std.specs.Io.KnownBytes.{Appends};
+ghost use Rattle.std.specs.Option.{option_copied};
 ghost use Rattle.ace_chart.specs.Charts.{IsDrawable};
 ghost use Rattle.ace_convert.specs.Output.{AppendsPart};
 ghost use Rattle.ace_explanation.specs.Refusals.{kept_part, kept_sentence, title, wrong_part};
@@ -18,6 +19,7 @@ use ace_explanation::{Explanation, Refusal, verdict_text};
 use ace_io::{Failed, NoMemory, Sink};
 use ace_malformed::push;
 use ace_pages::page_name;
+use ace_side_facts::SideFacts;
 use ace_words::{kept_where, rule_title};
 use itoa::Buffer;
 use std::alloc::Global;
@@ -40,9 +42,12 @@ another the first line.
   --port P,..      of these the events of these ports alone
   --rows N         N rows at most before a refused event; else 400
   --title TEXT     the picture is called so, and not as the file
+  --side FILE      the side file, which tells the times of events and the names of ports; else
+                   FILE.side where there is one
+  --no-side        none is read
 
-status: 0 it was drawn, 3 malformed, 4 unreadable, 6 it would have more rows, 7 no memory; 5 an
-output failed; 2 these words are wrong
+status: 0 it was drawn, 3 it or its side file is malformed, 4 unreadable, 6 it would have more rows,
+7 no memory; 5 an output failed; 2 these words are wrong
 "
 }
 
@@ -171,7 +176,7 @@ fn heading_of<'a>(name: &'a str, title: Option<&'a str>) -> &'a str
     }
 }
 
-/// The picture of the trace of this name.
+/// The picture of the trace of this name, with what its side file tells.
 ///
 /// # Errors
 ///
@@ -182,11 +187,12 @@ pub(crate) fn picture_text(
     heading: Option<&str>,
     chart: &Chart,
     explanation: &Explanation,
+    side: Option<&SideFacts>,
 ) -> Result<Vec<u8>, NoMemory>
     requires { IsDrawable chart.now }
     ensures { IfOk result (λ text. text.items
         ≡ picture_text name.now (option_map (λ t. t.now) heading.entry) chart.now
-        explanation.now) }
+        explanation.now (option_copied side.entry)) }
 {
     let verdict = verdict_text(explanation.verdict());
     let wrong = wrong_below(alloc, explanation)?;
@@ -200,7 +206,8 @@ pub(crate) fn picture_text(
         got: got.as_slice(),
     };
     let name = heading_of(name, heading);
-    chart_text(alloc, chart, name.as_bytes(), verdict.as_bytes(), &below)
+    let name = name.as_bytes();
+    chart_text(alloc, chart, name, verdict.as_bytes(), &below, side)
 }
 
 /// Tells that the chart would have more rows than so many.

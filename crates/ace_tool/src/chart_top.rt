@@ -4,6 +4,7 @@ ghost use Rattle.ace_io.specs.Faults.{HasCause, Rose};
 ghost use Rattle.ace_tool.specs.ChartTold.{chart_of};
 ghost use Rattle.ace_tool.specs.Charting.{Charts, Draws, Notes, Puts, Shows};
 ghost use Rattle.ace_tool.specs.Pictures.{MayBeNoted, MayBeShown};
+ghost use Rattle.ace_tool.specs.declared.picture.NoPicture.TheVariants.{BadSide};
 
 use crate::chart_call::ChartCall;
 use crate::chart_texts::{chart_help, tell_packed_to_draw, tell_rows};
@@ -11,12 +12,33 @@ use crate::chart_words::chart_call;
 use crate::conclude::note;
 use crate::explain::{tell_explanation, tell_shut};
 use crate::folder::Folder;
+use crate::line::give_line;
 use crate::picture::{NoPicture, Picture, picture_named};
+use crate::report::{Report, status_of};
 use crate::request::is_help;
 use crate::shelf::Shelf;
+use crate::side::SideFault;
 use ace_call::{break_off, give_text};
 use ace_io::{Failed, Sink, Source};
 use std::alloc::Global;
+
+/// Notes why the side file tells nothing, and returns the status.
+fn tell_bad_side<E: Sink>(
+    notes: &mut E,
+    call: &ChartCall<'_>,
+    fault: SideFault,
+) -> Result<u8, Failed>
+    ensures whole { IfOk result (Notes (chart_of call.now) (BadSide fault) (E.held notes.old)
+        (E.held notes.new)) }
+    ensures no_write_fault { IfOk result (λ status. status ≢ 5) }
+    ensures cause { HasCause (E.faults notes.old) (E.faults notes.new) result }
+{
+    let report = Report::BadSide { fault };
+    match give_line(notes, call.side, call.trace, &report) {
+        Ok(()) => Ok(status_of(&report)),
+        Err(failed) => Err(failed),
+    }
+}
 
 /// Notes why there is no picture, and returns the status.
 fn note_reason<E: Sink>(
@@ -39,6 +61,7 @@ fn note_reason<E: Sink>(
             Ok(()) => Ok(6),
             Err(failed) => Err(failed),
         },
+        NoPicture::BadSide { fault } => tell_bad_side(notes, call, fault),
         NoPicture::Shut { error } => match tell_shut(notes, call.trace, error) {
             Ok(()) => Ok(4),
             Err(failed) => Err(failed),

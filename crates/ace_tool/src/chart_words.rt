@@ -1,6 +1,6 @@
 // The words behind `chart`, taken one after another.
 ghost use Rattle.std.specs.Prelude.{◌≡◌, Some, map, string_bytes, MatchOption};
-ghost use Rattle.ace_tool.specs.ChartAsked.{AsksChart, ChartAsked, IsChartAsked, nothing_to_draw, with_drawn, with_drawn_all, with_drawn_name, with_drawn_value, with_drawn_valued, with_drawn_word};
+ghost use Rattle.ace_tool.specs.ChartAsked.{AsksChart, ChartAsked, IsChartAsked, nothing_to_draw, with_drawn, with_drawn_all, with_drawn_hyphen, with_drawn_name, with_drawn_value, with_drawn_valued, with_drawn_word};
 ghost use Rattle.ace_tool.specs.ChartTold.{chart_of};
 ghost use Rattle.ace_tool.specs.Told.{if_taken};
 
@@ -66,7 +66,7 @@ impl<'a> ChartWords<'a> {
         }
     }
 
-    /// Takes an option, and says whether it is right there.
+    /// Takes an option that has a value, and says whether it is right there.
     fn take_valued(&mut self, word: &'a str) -> bool
         ensures { with_drawn_valued word.entry.now self.old ≡ if_taken result self.new }
     {
@@ -76,6 +76,18 @@ impl<'a> ChartWords<'a> {
                 self.waiting = chart_valued_of(word);
                 self.waiting.is_some()
             }
+        }
+    }
+
+    /// Takes an option, and says whether it is right there.
+    fn take_option(&mut self, word: &'a str) -> bool
+        ensures { with_drawn_hyphen word.entry.now self.old ≡ if_taken result self.new }
+    {
+        if word == "--no-side" {
+            self.given.add_no_side();
+            true
+        } else {
+            self.take_valued(word)
         }
     }
 
@@ -89,7 +101,7 @@ impl<'a> ChartWords<'a> {
             self.names_only = true;
             true
         } else if has_hyphen(word) && !is_input(word) {
-            self.take_valued(word)
+            self.take_option(word)
         } else {
             self.take_name(word)
         }
@@ -135,6 +147,7 @@ impl<'a> ChartWords<'a> {
         let line = self.given.line()?;
         let rows = self.given.rows()?;
         let selection = self.given.selection()?;
+        let side = self.given.side()?;
         Some(ChartCall {
             trace: self.trace.unwrap_or("-"),
             out: self.given.out(),
@@ -142,6 +155,7 @@ impl<'a> ChartWords<'a> {
             rows,
             selection,
             title: self.given.title(),
+            side,
         })
     }
 }

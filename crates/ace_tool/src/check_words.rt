@@ -1,7 +1,8 @@
 // The words behind `check`, taken one after another.
-ghost use Rattle.std.specs.Prelude.{◌≡◌, ◌≤◌, ◌||◌, Some, None, true, is_some, length, map, string_bytes, IfOk, IfSome, MatchOption};
+ghost use Rattle.std.specs.Prelude.{◌≡◌, ◌≤◌, ◌||◌, ℕ, List, Some, None, true, is_some, length, map, string_bytes, IfOk, IfSome, MatchOption};
 ghost use Rattle.ace_tool.specs.Asked.{AreOptions, CheckAsked, IsChecked, Options, has_hyphen, is_input, may_have, nothing, with_all, with_more, with_option, with_trace, with_value_of, with_valued, with_word};
 ghost use Rattle.ace_tool.specs.BatchAsked.{AreOfFiles};
+ghost use Rattle.ace_tool.specs.ExplainAsked.{IsOfOne};
 ghost use Rattle.ace_tool.specs.Told.{check_of, if_right, options_of, side_of};
 
 use crate::check_call::{CheckCall, some_traces};
@@ -189,6 +190,27 @@ impl<'a> CheckWords<'a> {
         ensures { result ≡ (self.now.names_only || is_some self.now.waiting) }
     {
         self.names_only || self.waiting.is_some()
+    }
+
+    /// The name of the one trace, standard input where none is named, and how it is to be checked,
+    /// if the words are right.
+    pub(crate) fn one(self) -> Option<(&'a str, CheckOptions<'a>)>
+        ensures { MatchOption result
+            ((trace : List ℕ) (options : Options) → ¬ IsOfOne self.entry trace options)
+            (λ o. IsOfOne self.entry o.0.now (options_of o.1)) }
+    {
+        if self.waiting.is_some() {
+            return None;
+        }
+        let trace = match self.traces.as_slice() {
+            [] => "-",
+            [name] => name,
+            _ => return None,
+        };
+        match self.given.options() {
+            Some(options) => Some((trace, options)),
+            None => None,
+        }
     }
 
     /// The names of files, and how they are to be checked, if the words are right: standard input

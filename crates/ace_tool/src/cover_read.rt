@@ -1,12 +1,15 @@
-// What traces show, and what is told of them.
+// What a trace shows, and what is told of it.
 ghost use Rattle.std.specs.Prelude.{◌≡◌, map, IfSome};
 ghost use Rattle.ace_cover.specs.Counts.{AreCounts};
 ghost use Rattle.ace_io.specs.Faults.{Rose};
 ghost use Rattle.ace_io.specs.Line.{in_front};
+ghost use Rattle.ace_points.specs.Points.{all_points};
 ghost use Rattle.ace_verdict.specs.Verdict.{IsVerdictWithin};
 ghost use Rattle.ace_verdict.specs.declared.verdict.Verdict.TheVariants.{ReadFault};
+ghost use Rattle.ace_tool.specs.Asked.{is_input};
+ghost use Rattle.ace_tool.specs.Covered.{IsCounted, IsCountedBy, IsCountedIn, IsCountedOf};
 ghost use Rattle.ace_tool.specs.Explaining.{no_limits};
-ghost use Rattle.ace_tool.specs.declared.report.Report.TheVariants.{Told};
+ghost use Rattle.ace_tool.specs.Held.{told_of};
 
 use crate::check_words::is_input;
 use crate::finding::no_limits;
@@ -42,13 +45,16 @@ fn cover_behind<S: Source>(
 }
 
 /// What is to be told of the trace that the source gives, and what its events show.
+#[tactic(auto, using(crate::proofs::CoverReading::counting))]
 fn cover_source<S: Source>(
     alloc: Global,
     source: &mut S,
     points: &[Point],
     hits: &mut Vec<u64>,
 ) -> Report
+    requires all { points.now ≡ all_points }
     requires fresh { hits.old.items ≡ map (λ _. 0) points.now }
+    ensures { IfSome (S.left source.old) (λ bytes. IsCountedIn bytes result hits.new.items) }
 {
     match take_front(source) {
         Ok(front) => match packing_of(front.as_slice()) {
@@ -66,6 +72,24 @@ fn cover_source<S: Source>(
     }
 }
 
+/// The same of the trace in the file of this name.
+fn cover_file<F: Folder>(
+    alloc: Global,
+    files: &F,
+    name: &str,
+    points: &[Point],
+    hits: &mut Vec<u64>,
+) -> Report
+    requires all { points.now ≡ all_points }
+    requires fresh { hits.old.items ≡ map (λ _. 0) points.now }
+    ensures { IsCountedOf (told_of (F.holds files.now name.now)) result hits.new.items }
+{
+    match files.open(name) {
+        Ok(mut file) => cover_source(alloc, &mut file, points, hits),
+        Err(error) => Report::Shut { error },
+    }
+}
+
 /// What is to be told of the trace of this name, and what its events show: `hits`, which begin with
 /// 0, are counts where it is accepted.
 pub(crate) fn cover_named<F: Folder, I: Source>(
@@ -76,13 +100,14 @@ pub(crate) fn cover_named<F: Folder, I: Source>(
     points: &[Point],
     hits: &mut Vec<u64>,
 ) -> Report
+    requires all { points.now ≡ all_points }
     requires fresh { hits.old.items ≡ map (λ _. 0) points.now }
+    ensures { IsCounted (F.holds files.now) name.now (I.left input.old) result hits.new.items
+        (I.left input.new) }
 {
     if is_input(name) {
-        return cover_source(alloc, input, points, hits);
-    }
-    match files.open(name) {
-        Ok(mut file) => cover_source(alloc, &mut file, points, hits),
-        Err(error) => Report::Shut { error },
+        cover_source(alloc, input, points, hits)
+    } else {
+        cover_file(alloc, files, name, points, hits)
     }
 }

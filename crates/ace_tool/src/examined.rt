@@ -1,10 +1,12 @@
 // What is found in the file of a trace, and what is to be told of it.
 ghost use Rattle.std.specs.Prelude.{◌≡◌, ◌≤◌, IfSome};
-ghost use Rattle.ace_explanation.specs.Explanations.{HasAnyLine, IsExplanationWithin};
+ghost use Rattle.ace_explanation.specs.Explanations.{HasAnyLine, IsExplanationWithin, verdict_of};
 ghost use Rattle.ace_grammar.specs.Reading.{most_counted};
 ghost use Rattle.ace_io.specs.Line.{in_front};
 ghost use Rattle.ace_tool.specs.Checked.{IsJudged, accepted_of};
-ghost use Rattle.ace_tool.specs.Explaining.{MayBeTold};
+ghost use Rattle.ace_tool.specs.Explaining.{IsReadFault, MayBeTold};
+ghost use Rattle.ace_io.specs.Faults.{Rose};
+ghost use Rattle.ace_verdict.specs.declared.verdict.Verdict.TheVariants.{ReadFault};
 ghost use Rattle.ace_tool.specs.Held.{told_of};
 ghost use Rattle.ace_tool.specs.Examined.{IsExamined, IsFoundFile, IsFoundWithin, report_of};
 ghost use Rattle.ace_tool.specs.Told.{options_of};
@@ -43,6 +45,9 @@ fn explained_behind<S: Source>(
     ensures right { IfSome (in_front front.items (S.left source.old))
         (λ bytes. IsExplanationWithin limits bytes result) }
     ensures line { HasAnyLine result }
+    // Where it tells a read fault, the source failed.
+    ensures fault { verdict_of result ≡ ReadFault → (after : S)
+        × Rose (S.faults source.old) (S.faults after) }
 {
     let mut peeked = Peeked::new(source, front);
     explanation_within(alloc, &mut peeked, limits)
@@ -50,10 +55,11 @@ fn explained_behind<S: Source>(
 
 /// What is found in the trace that the source gives.
 #[tactic(auto, using(crate::proofs::Examining::examining))]
-fn find_within<S: Source>(alloc: Global, source: &mut S, limits: Limits) -> Finding
+pub(crate) fn find_within<S: Source>(alloc: Global, source: &mut S, limits: Limits) -> Finding
     requires { limits.events ≤ most_counted }
     ensures found { IfSome (S.left source.old) (λ bytes. IsFoundWithin limits bytes result) }
     ensures line { MayBeTold result }
+    ensures fault { IsReadFault result → (after : S) × Rose (S.faults source.old) (S.faults after) }
 {
     match take_front(source) {
         Ok(front) => match packing_of(front.as_slice()) {
@@ -72,7 +78,7 @@ fn find_within<S: Source>(alloc: Global, source: &mut S, limits: Limits) -> Find
 
 /// What is found in the file of this name.
 #[tactic(auto, using(crate::proofs::Examining::examining))]
-fn find_file<F: Folder>(alloc: Global, files: &F, name: &str, limits: Limits) -> Finding
+pub(crate) fn find_file<F: Folder>(alloc: Global, files: &F, name: &str, limits: Limits) -> Finding
     requires { limits.events ≤ most_counted }
     ensures found { IsFoundFile limits (told_of (F.holds files.now name.now)) result }
     ensures line { MayBeTold result }
@@ -84,7 +90,7 @@ fn find_file<F: Folder>(alloc: Global, files: &F, name: &str, limits: Limits) ->
 }
 
 /// What `check` tells of a trace alone, by what was found in it.
-fn report_of(finding: Finding) -> Report
+pub(crate) fn report_of(finding: Finding) -> Report
     ensures { result ≡ report_of finding }
 {
     match finding {
@@ -98,7 +104,7 @@ fn report_of(finding: Finding) -> Report
 }
 
 /// What is told of the trace of this name, by its side file too, where this is told of it alone.
-fn report_beside<F: Folder>(
+pub(crate) fn report_beside<F: Folder>(
     alloc: Global,
     files: &F,
     name: &str,

@@ -1,9 +1,12 @@
 // The words behind `explain`, taken one after another.
-ghost use Rattle.std.specs.Prelude.{◌≡◌, Some, map, string_bytes, option_map};
-ghost use Rattle.ace_tool.specs.ExplainAsked.{explain_asked, explain_with, finished, nothing_to_explain, with_form, with_name};
+ghost use Rattle.std.specs.Prelude.{◌≡◌, Some, map, string_bytes, IfOk, MatchOption};
+ghost use Rattle.ace_tool.specs.ExplainAsked.{AsksExplain, ExplainAsked, IsExplain, as_checked, explain_with, explain_with_all, nothing_to_explain, with_form};
 ghost use Rattle.ace_tool.specs.Told.{explain_of, if_taken};
 
-use crate::check_words::{has_hyphen, is_input};
+use crate::check_options::CheckOptions;
+use crate::check_words::CheckWords;
+use ace_io::NoMemory;
+use std::alloc::Global;
 use std::marker::Model;
 
 /// In which form it is told of a trace.
@@ -24,50 +27,37 @@ pub struct ExplainCall<'a> {
     pub trace: &'a str,
     /// In which form it is told of.
     pub form: Form,
+    /// How it is to be checked.
+    pub options: CheckOptions<'a>,
 }
 
 /// What the words so far ask. A word that is wrong ends it: what it holds then says nothing.
 #[derive(Drop)]
 struct ExplainWords<'a> {
-    trace: Option<&'a str>,
+    check: CheckWords<'a>,
     form: Form,
-    names_only: bool,
 }
 
 impl<'a> Model for ExplainWords<'a> {
-    ghost use Rattle.std.specs.Prelude.{option_map};
     ghost use Rattle.ace_tool.specs.ExplainAsked.{ExplainSoFar};
 
     ghost Value = { ExplainSoFar };
 
     ghost view = { λ w. record {
-      trace = option_map (λ name. name.now) w.trace;
+      check = w.check;
       form = w.form;
-      names_only = w.names_only;
     } };
 }
 
 impl<'a> ExplainWords<'a> {
     /// No word has come.
-    fn new() -> ExplainWords<'a>
+    fn new(alloc: Global) -> ExplainWords<'a>
         ensures { result ≡ nothing_to_explain }
     {
         ExplainWords {
-            trace: None,
+            check: CheckWords::new(alloc),
             form: Form::Whole,
-            names_only: false,
         }
-    }
-
-    /// Takes the name of the trace, and says whether it is right there.
-    fn take_name(&mut self, name: &'a str) -> bool
-        ensures { with_name name.entry.now self.old ≡ if_taken result self.new }
-    {
-        if self.trace.is_some() {
-            return false;
-        }
-        self.trace = Some(name);
-        true
     }
 
     /// Takes the form, and says whether it is right there.
@@ -83,47 +73,77 @@ impl<'a> ExplainWords<'a> {
         }
     }
 
-    /// Takes the next word, and says whether it is right there.
-    fn take(&mut self, word: &'a str) -> bool
-        ensures { explain_with word.entry.now self.old ≡ if_taken result self.new }
+    /// Takes a word as `check` does, and says whether it is right there.
+    fn take_as_check(&mut self, word: &'a str) -> Result<bool, NoMemory>
+        ensures { IfOk result (λ right. as_checked word.entry.now self.old
+            ≡ if_taken right self.new) }
     {
-        if self.names_only {
-            self.take_name(word)
-        } else if word == "--" {
-            self.names_only = true;
-            true
+        self.check.take(word)
+    }
+
+    /// Takes the next word, and says whether it is right there.
+    fn take(&mut self, word: &'a str) -> Result<bool, NoMemory>
+        ensures { IfOk result (λ right. explain_with word.entry.now self.old
+            ≡ if_taken right self.new) }
+    {
+        if self.check.takes_any() {
+            self.take_as_check(word)
         } else if word == "--short" {
-            self.take_form(Form::Short)
+            Ok(self.take_form(Form::Short))
         } else if word == "--json" {
-            self.take_form(Form::Json)
-        } else if has_hyphen(word) && !is_input(word) {
-            false
+            Ok(self.take_form(Form::Json))
         } else {
-            self.take_name(word)
+            self.take_as_check(word)
         }
     }
 
-    /// What is asked, where no more words come.
-    fn finish(self) -> ExplainCall<'a>
-        ensures { explain_of result ≡ finished self.entry }
+    /// What the words ask, if all of them are right.
+    #[tactic(auto, using(crate::proofs::ExplainWords::wrongs))]
+    fn read(alloc: Global, words: &'a [String]) -> Result<Option<ExplainWords<'a>>, NoMemory>
+        ensures { IfOk result (λ asked. explain_with_all (Some nothing_to_explain)
+            (map string_bytes words.entry.now) ≡ asked) }
     {
-        ExplainCall {
-            trace: self.trace.unwrap_or("-"),
-            form: self.form,
+        let mut asked = ExplainWords::new(alloc);
+        for word in words {
+            if !asked.take(word.as_str())? {
+                return Ok(None);
+            }
         }
+        Ok(Some(asked))
+    }
+
+    /// What the words ask `explain` to do, if they are right.
+    #[tactic(auto, using(crate::proofs::ExplainWords::refusals))]
+    fn finish(self) -> Option<ExplainCall<'a>>
+        ensures { MatchOption result ((explain : ExplainAsked) → ¬ IsExplain self.entry explain)
+            (λ c. IsExplain self.entry (explain_of c)) }
+    {
+        let (trace, options) = self.check.one()?;
+        Some(ExplainCall {
+            trace,
+            form: self.form,
+            options,
+        })
     }
 }
 
 /// What the words behind `explain` ask it to do, if they are right.
-#[tactic(auto, using(crate::proofs::ExplainWords::wrongs))]
-pub(crate) fn explain_call<'a>(words: &'a [String]) -> Option<ExplainCall<'a>>
-    ensures { option_map explain_of result ≡ explain_asked (map string_bytes words.entry.now) }
+///
+/// # Errors
+///
+/// `NoMemory` where there is none for what they ask.
+#[tactic(auto, using(crate::proofs::ExplainWords::calls))]
+pub(crate) fn explain_call<'a>(
+    alloc: Global,
+    words: &'a [String],
+) -> Result<Option<ExplainCall<'a>>, NoMemory>
+    ensures { IfOk result (λ call. MatchOption call
+        ((explain : ExplainAsked) → ¬ AsksExplain (map string_bytes words.entry.now) explain)
+        (λ c. AsksExplain (map string_bytes words.entry.now) (explain_of c))) }
 {
-    let mut asked = ExplainWords::new();
-    for word in words {
-        if !asked.take(word.as_str()) {
-            return None;
-        }
+    match ExplainWords::read(alloc, words) {
+        Ok(Some(asked)) => Ok(asked.finish()),
+        Ok(None) => Ok(None),
+        Err(NoMemory) => Err(NoMemory),
     }
-    Some(asked.finish())
 }

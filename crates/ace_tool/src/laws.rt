@@ -1,7 +1,11 @@
 //! Facts about the definitions, as contracts of functions that do nothing.
 
 ghost use Rattle.std.specs.Prelude.{◌≡◌, ℕ, List, Option};
+ghost use Rattle.ace_batch.specs.Counts.{status_of_all as status_of_batch};
+ghost use Rattle.ace_batch.specs.declared.entry.Entry.{Entry};
 ghost use Rattle.ace_tool.specs.Asked.{Options};
+ghost use Rattle.ace_tool.specs.Batch.{AreResults};
+ghost use Rattle.ace_tool.specs.BatchAsked.{BatchAsked};
 ghost use Rattle.ace_tool.specs.Checked.{AreRight, AreSound, Checked, statuses_of};
 ghost use Rattle.ace_tool.specs.Held.{Held};
 ghost use Rattle.ace_tool.specs.Requests.{Asks, Wish};
@@ -19,6 +23,14 @@ pub fn accepted_traces_are_sound()
 {
     one_verdict_is_due();
 }
+
+/// Where the status of a batch is 0, none of the traces that are asked for is left: each was looked
+/// at, also where the call is to end with the first that isn't accepted.
+pub fn zero_leaves_none()
+    ensures { (asked : BatchAsked) (holds knows : List ℕ → Held) (input : Option (List ℕ))
+        (entries : List Entry) (left : ℕ) → AreResults asked holds knows input entries left
+        → status_of_batch entries ≡ 0 → left ≡ 0 }
+{}
 
 /// Words of the command line ask one thing at most.
 pub fn words_ask_one_thing()

@@ -88,7 +88,7 @@ pub(crate) fn said_of<'a>(name: &'a str, report: Report) -> Said<'a>
 }
 
 /// The name of the side file of a trace, in two pieces.
-fn side_pieces<'a>(side: SideChoice<'a>, name: &'a str) -> (&'a str, &'a str)
+pub(crate) fn side_pieces<'a>(side: SideChoice<'a>, name: &'a str) -> (&'a str, &'a str)
     ensures { result.0.now ++ result.1.now ≡ side_name (side_of side.entry) name.entry.now }
 {
     match side {

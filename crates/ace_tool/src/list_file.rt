@@ -1,5 +1,5 @@
 // The file that lists traces.
-ghost use Rattle.std.specs.Prelude.{IfOk, string_bytes};
+ghost use Rattle.std.specs.Prelude.{◌≡◌, false, IfOk, string_bytes};
 ghost use Rattle.ace_tool.specs.Asked.{is_input};
 ghost use Rattle.ace_tool.specs.Held.{told_of};
 ghost use Rattle.ace_tool.specs.ListTexts.{IsListText, IsWhole, TakesSome};
@@ -91,9 +91,11 @@ pub(crate) fn read_list<F: Folder, I: Source>(
     input: &mut I,
     name: &str,
 ) -> Result<String, ListErr>
-    ensures { IfOk result (λ text. IsListText (is_input name.now)
+    ensures text { IfOk result (λ text. IsListText (is_input name.now)
         (told_of (F.holds files.now name.now))
         (I.left input.old) (string_bytes text)) }
+    // Standard input is read only where it is named.
+    ensures kept { is_input name.now ≡ false → I.left input.new ≡ I.left input.old }
 {
     if is_input(name) {
         return read_text(alloc, input);

@@ -74,6 +74,15 @@ fn push_name(text: &mut String, words: &[String], place: usize) -> Result<(), No
     }
 }
 
+/// What stands behind the number of traces of a part that were not looked at.
+fn left_end(count: u64) -> &'static str {
+    if count == 1 {
+        " trace of its part was not looked at"
+    } else {
+        " traces of its part were not looked at"
+    }
+}
+
 /// Adds why the text of a file isn't the results of a part.
 fn push_part_error(text: &mut String, error: PartErr) -> Result<(), NoMemory> {
     match error {
@@ -84,6 +93,7 @@ fn push_part_error(text: &mut String, error: PartErr) -> Result<(), NoMemory> {
             line,
             ": not as `acetool batch` writes it",
         ),
+        PartErr::Left { count } => push_count(text, ": ", count, left_end(count)),
         PartErr::NoMemory => push(text, ": out of memory"),
     }
 }

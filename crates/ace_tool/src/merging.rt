@@ -104,10 +104,10 @@ fn merge_files<F: Folder>(
 
 /// The summary of these results.
 fn summary_of(alloc: Global, entries: &[Entry]) -> Result<Vec<u8>, NoMemory>
-    ensures { IfOk result (λ text. text.items ≡ summary_text entries.now) }
+    ensures { IfOk result (λ text. text.items ≡ summary_text 0 entries.now) }
 {
     let mut text = Vec::new(alloc);
-    push_summary(alloc, &mut text, entries)?;
+    push_summary(alloc, &mut text, 0, entries)?;
     Ok(text)
 }
 

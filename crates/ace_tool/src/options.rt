@@ -127,7 +127,7 @@ pub(crate) fn limit_of(word: Option<&str>, most: u64) -> Option<u64>
 }
 
 /// What the words of `--side` and `--no-side` say, if they are right.
-fn side_choice<'a>(side: Option<&'a str>, no_side: bool) -> Option<SideChoice<'a>>
+pub(crate) fn side_choice<'a>(side: Option<&'a str>, no_side: bool) -> Option<SideChoice<'a>>
     ensures { option_map side_of result ≡ side_said (option_map (λ w. w.now) side.entry) no_side }
 {
     match (side, no_side) {

@@ -49,7 +49,7 @@ pub(crate) fn status_of_verdict(verdict: Verdict) -> u8
 }
 
 /// The status where a side file tells nothing.
-fn status_of_fault(fault: SideFault) -> u8
+pub(crate) fn status_of_fault(fault: SideFault) -> u8
     ensures { result ≡ status_of_fault fault }
 {
     match fault {

@@ -73,15 +73,16 @@ fn check_request<'a>(alloc: Global, words: &'a [String]) -> Result<Option<Reques
 
 /// The same of `explain`.
 #[tactic(auto, using(crate::proofs::Words::requests))]
-fn explain_request<'a>(words: &'a [String]) -> Option<Request<'a>>
-    ensures { IsRequest (codes "explain" ∷ map string_bytes words.entry.now) result }
+fn explain_request<'a>(alloc: Global, words: &'a [String]) -> Result<Option<Request<'a>>, NoMemory>
+    ensures { IfOk result (IsRequest (codes "explain" ∷ map string_bytes words.entry.now)) }
 {
     if is_help(words) {
-        return Some(Request::HelpOfExplain);
+        return Ok(Some(Request::HelpOfExplain));
     }
-    match explain_call(words) {
-        Some(call) => Some(Request::Explain { call }),
-        None => None,
+    match explain_call(alloc, words) {
+        Ok(Some(call)) => Ok(Some(Request::Explain { call })),
+        Ok(None) => Ok(None),
+        Err(NoMemory) => Err(NoMemory),
     }
 }
 
@@ -125,7 +126,7 @@ fn command_request<'a>(
     if command == "check" {
         check_request(alloc, words)
     } else if command == "explain" {
-        Ok(explain_request(words))
+        explain_request(alloc, words)
     } else if command == "rule" {
         rule_request(alloc, words)
     } else if words.is_empty() {

@@ -1,6 +1,7 @@
 // The entry of a trace in a list of results.
-ghost use Rattle.std.specs.Prelude.{◌≡◌, IfOk};
-ghost use Rattle.ace_tool.specs.Explaining.{MayBeTold};
+ghost use Rattle.std.specs.Prelude.{◌≡◌, false, IfOk};
+ghost use Rattle.ace_explanation.specs.Refusals.{HasLine, refusal_text};
+ghost use Rattle.ace_tool.specs.Explaining.{HasNoSide, MayBeTold};
 ghost use Rattle.ace_tool.specs.Results.{IsEntryOf, IsResult, IsText, message_of, signature_of};
 ghost use Rattle.ace_tool.specs.Told.{options_of};
 
@@ -13,9 +14,10 @@ use crate::result_parts::{
     events_of, line_of_result, outcome_of, outstanding_of, push_message, push_signature,
 };
 use ace_batch::Entry;
-use ace_explanation::{Explanation, refusal_text};
+use ace_explanation::{Explanation, Refusal, refusal_text};
 use ace_io::NoMemory;
 use ace_malformed::bad_line_text;
+use ace_side_facts::SideFacts;
 use std::alloc::Global;
 
 /// What traces that failed alike have in common.
@@ -41,6 +43,19 @@ fn message_of(
     Ok(text)
 }
 
+/// All that is told of the event that breaks a rule, without a side file.
+fn text_of_refusal(alloc: Global, name: &str, refusal: &Refusal) -> Result<Vec<u8>, NoMemory>
+    requires { HasLine refusal.now }
+    ensures { IfOk result (λ text. (f : SideFacts) × HasNoSide f
+        × (text.items ≡ refusal_text f name.now false refusal.now)) }
+{
+    let facts = SideFacts::none(alloc);
+    match refusal_text(alloc, name.as_bytes(), false, &facts, refusal) {
+        Ok(text) => Ok(text),
+        Err(NoMemory) => Err(NoMemory),
+    }
+}
+
 /// All that is told of the trace.
 fn text_of(
     alloc: Global,
@@ -53,9 +68,7 @@ fn text_of(
 {
     match finding {
         Finding::Explained { explanation } => match explanation {
-            Explanation::Refused { refusal } => {
-                refusal_text(alloc, name.as_bytes(), false, refusal)
-            }
+            Explanation::Refused { refusal } => { text_of_refusal(alloc, name, refusal) }
             Explanation::Malformed { bad } => bad_line_text(alloc, name.as_bytes(), false, bad),
             _ => message_of(alloc, name, finding, report),
         },

@@ -21,7 +21,7 @@ use ace_words::wrong_with;
 use itoa::Buffer;
 
 /// How a check came out, where the side file tells nothing.
-fn outcome_of_fault(fault: SideFault) -> Outcome
+pub(crate) fn outcome_of_fault(fault: SideFault) -> Outcome
     ensures { result ≡ outcome_of_fault fault }
 {
     match fault {

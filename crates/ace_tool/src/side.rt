@@ -47,7 +47,7 @@ pub enum SideFound {
 }
 
 /// Why a side file tells nothing that can't be read on.
-fn fault_of(error: SideErr) -> SideFault
+pub(crate) fn fault_of(error: SideErr) -> SideFault
     ensures { result ≡ fault_of error }
 {
     match error {
@@ -145,7 +145,7 @@ fn open_side<F: Folder>(alloc: Global, files: &F, name: &str, has_to_be: bool) -
 }
 
 /// The name of the side file that is beside the trace of this name.
-fn name_beside(alloc: Global, name: &str) -> Result<String, NoMemory>
+pub(crate) fn name_beside(alloc: Global, name: &str) -> Result<String, NoMemory>
     ensures { IfOk result (λ file. string_bytes file ≡ name.now ++ codes ".side") }
 {
     let Ok(mut file) = String::from_str(alloc, name) else {

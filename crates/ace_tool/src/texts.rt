@@ -53,17 +53,22 @@ are wrong
 pub(crate) fn explain_help() -> &'static str
     ensures { result.now ≡ explain_help }
 {
-    "usage: acetool explain [--short | --json] [--] [FILE]
+    "usage: acetool explain [OPTION].. [--] [FILE]
 
 Says of the trace what `ace check` says, after FILE:LINE:, and what is wrong there. Of a refused
 trace it tells the event that is the first to break a rule, and the clause of the rule that is
-broken.
+broken; and by its side file when events are, what ports and lines are called in the design, and
+what is remarked. Of an accepted trace it tells by that whether the recording is whole.
 
   --short          the first line alone
   --json           all that there is to say as a JSON object in one line
+  --side FILE      the side file; that of a FILE is else FILE.side, if it is there
+  --no-side        no side file is read
+  --require-end, --allow-cut, --drained, --most-events N, --most-lines N
+                   as of check
 
-status: 0 accepted, 1 refused, 3 malformed, 4 unreadable, 7 no memory; 5 the output failed; 2 these
-words are wrong
+status: 0 accepted, 1 refused, 3 malformed, 8 unfinished, 6 a limit, 4 unreadable, 7 no memory;
+5 the output failed; 2 these words are wrong
 "
 }
 

@@ -16,7 +16,7 @@ const ANY: &str = "usage: acetool COMMAND [OPTION].. [FILE]..\n";
 
 const CHECK: &str = "usage: acetool check [OPTION].. [--] [FILE]..\n";
 
-const EXPLAIN: &str = "usage: acetool explain [--short | --json] [--] [FILE]\n";
+const EXPLAIN: &str = "usage: acetool explain [OPTION].. [--] [FILE]\n";
 
 const RULE: &str = "usage: acetool rule [NAME]..\n";
 
@@ -348,7 +348,7 @@ const OPEN: [Row; 9] = [
 ];
 
 /// Why traces are refused, and what rules ask.
-const TOLD: [Row; 42] = [
+const TOLD: [Row; 45] = [
     ("explain", 0, "<stdin>: accepted 0\n", ""),
     ("explain -", 0, "<stdin>: accepted 0\n", ""),
     ("explain good", 0, "good: accepted 1\n", ""),
@@ -357,7 +357,25 @@ const TOLD: [Row; 42] = [
     (
         "explain refused",
         1,
-        "refused:3: refused event 1: K22: the port acknowledges, and no read of it is complete\n\n  RK 0 UC\n  port 0 acknowledges a read, state UC\n\n  K22a  a read acknowledge has a read: the port has a complete read without RK\n\n  in a design    RACK is a pulse without a handshake. A register slice or a clock crossing that\n                 widens it gives two, and the interconnect sets a line free before its transaction\n                 has ended.\n",
+        "refused:3: refused event 1: K22: the port acknowledges, and no read of it is complete\n\n  RK 0 UC\n  port 0 acknowledges a read, state UC\n\n  K22a  a read acknowledge has a read: the port has a complete read without RK\n\n  in a design    RACK is a pulse without a handshake. A register slice or a clock crossing that\n                 widens it gives two, and the interconnect sets a line free before its transaction\n                 has ended.\n\n  note: refused.side:3: malformed side line 3: S4\n",
+        "",
+    ),
+    (
+        "explain --side whole.side refused",
+        1,
+        "refused:3: refused event 1: K22: the port acknowledges, and no read of it is complete\n\n  RK 0 UC    at 5\n  port 0 acknowledges a read, state UC\n\n  K22a  a read acknowledge has a read: the port has a complete read without RK\n\n  in a design    RACK is a pulse without a handshake. A register slice or a clock crossing that\n                 widens it gives two, and the interconnect sets a line free before its transaction\n                 has ended.\n",
+        "",
+    ),
+    (
+        "explain cut",
+        8,
+        "cut: unfinished: cut after 1 events on demand\n",
+        "",
+    ),
+    (
+        "explain --short bad",
+        3,
+        "bad.side:3: malformed side line 3: S4\n",
         "",
     ),
     (
@@ -402,31 +420,31 @@ const TOLD: [Row; 42] = [
     (
         "explain --json refused",
         1,
-        "{\"file\":\"refused\",\"verdict\":\"refused\",\"line\":3,\"column\":null,\"event\":1,\"rule\":\"K22\",\"clause\":\"K22a\",\"title\":\"a read acknowledge has a read\",\"sentence\":\"the port has a complete read without RK\",\"message\":\"the port acknowledges, and no read of it is complete\",\"record\":\"RK\",\"port\":0,\"kind\":null,\"address\":null,\"expected\":null,\"got\":null,\"note\":null,\"evidence\":[],\"states\":null,\"grant\":null,\"time\":null,\"accepted\":null,\"outstanding\":null}\n",
+        "{\"file\":\"refused\",\"verdict\":\"refused\",\"line\":3,\"column\":null,\"event\":1,\"rule\":\"K22\",\"clause\":\"K22a\",\"title\":\"a read acknowledge has a read\",\"sentence\":\"the port has a complete read without RK\",\"message\":\"the port acknowledges, and no read of it is complete\",\"record\":\"RK\",\"port\":0,\"kind\":null,\"address\":null,\"expected\":null,\"got\":null,\"note\":null,\"earlier\":0,\"evidence\":[],\"states\":null,\"grant\":null,\"time\":null,\"accepted\":null,\"outstanding\":null,\"side\":\"refused.side:3: malformed side line 3: S4\"}\n",
         "",
     ),
     (
         "explain --json malformed",
         3,
-        "{\"file\":\"malformed\",\"verdict\":\"malformed\",\"line\":3,\"column\":1,\"event\":null,\"rule\":\"F2\",\"clause\":null,\"title\":null,\"sentence\":null,\"message\":\"'XX' is no record\",\"record\":null,\"port\":null,\"kind\":null,\"address\":null,\"expected\":null,\"got\":null,\"note\":null,\"evidence\":[],\"states\":null,\"grant\":null,\"time\":null,\"accepted\":null,\"outstanding\":null}\n",
+        "{\"file\":\"malformed\",\"verdict\":\"malformed\",\"line\":3,\"column\":1,\"event\":null,\"rule\":\"F2\",\"clause\":null,\"title\":null,\"sentence\":null,\"message\":\"'XX' is no record\",\"record\":null,\"port\":null,\"kind\":null,\"address\":null,\"expected\":null,\"got\":null,\"note\":null,\"earlier\":null,\"evidence\":[],\"states\":null,\"grant\":null,\"time\":null,\"accepted\":null,\"outstanding\":null,\"side\":null}\n",
         "",
     ),
     (
         "explain line --json --json",
         0,
-        "{\"file\":\"line\",\"verdict\":\"accepted\",\"line\":null,\"column\":null,\"event\":null,\"rule\":null,\"clause\":null,\"title\":null,\"sentence\":null,\"message\":null,\"record\":null,\"port\":null,\"kind\":null,\"address\":null,\"expected\":null,\"got\":null,\"note\":null,\"evidence\":[],\"states\":null,\"grant\":null,\"time\":null,\"accepted\":1,\"outstanding\":1}\n",
+        "{\"file\":\"line\",\"verdict\":\"accepted\",\"line\":null,\"column\":null,\"event\":null,\"rule\":null,\"clause\":null,\"title\":null,\"sentence\":null,\"message\":null,\"record\":null,\"port\":null,\"kind\":null,\"address\":null,\"expected\":null,\"got\":null,\"note\":null,\"earlier\":null,\"evidence\":[],\"states\":null,\"grant\":null,\"time\":null,\"accepted\":1,\"outstanding\":1,\"side\":null}\n",
         "",
     ),
     (
         "explain --json failing_later",
         4,
-        "{\"file\":\"failing_later\",\"verdict\":\"unreadable\",\"line\":null,\"column\":null,\"event\":null,\"rule\":null,\"clause\":null,\"title\":null,\"sentence\":null,\"message\":\"read fault\",\"record\":null,\"port\":null,\"kind\":null,\"address\":null,\"expected\":null,\"got\":null,\"note\":null,\"evidence\":[],\"states\":null,\"grant\":null,\"time\":null,\"accepted\":null,\"outstanding\":null}\n",
+        "{\"file\":\"failing_later\",\"verdict\":\"unreadable\",\"line\":null,\"column\":null,\"event\":null,\"rule\":null,\"clause\":null,\"title\":null,\"sentence\":null,\"message\":\"read fault\",\"record\":null,\"port\":null,\"kind\":null,\"address\":null,\"expected\":null,\"got\":null,\"note\":null,\"earlier\":null,\"evidence\":[],\"states\":null,\"grant\":null,\"time\":null,\"accepted\":null,\"outstanding\":null,\"side\":null}\n",
         "",
     ),
     (
         "explain --json xz",
         4,
-        "{\"file\":\"xz\",\"verdict\":\"unreadable\",\"line\":null,\"column\":null,\"event\":null,\"rule\":null,\"clause\":null,\"title\":null,\"sentence\":null,\"message\":\"compressed; use: xz -dc xz | acetool explain -\",\"record\":null,\"port\":null,\"kind\":null,\"address\":null,\"expected\":null,\"got\":null,\"note\":null,\"evidence\":[],\"states\":null,\"grant\":null,\"time\":null,\"accepted\":null,\"outstanding\":null}\n",
+        "{\"file\":\"xz\",\"verdict\":\"unreadable\",\"line\":null,\"column\":null,\"event\":null,\"rule\":null,\"clause\":null,\"title\":null,\"sentence\":null,\"message\":\"compressed; use: xz -dc xz | acetool explain -\",\"record\":null,\"port\":null,\"kind\":null,\"address\":null,\"expected\":null,\"got\":null,\"note\":null,\"earlier\":null,\"evidence\":[],\"states\":null,\"grant\":null,\"time\":null,\"accepted\":null,\"outstanding\":null,\"side\":null}\n",
         "",
     ),
     ("explain --json=1 good", 2, "", EXPLAIN),

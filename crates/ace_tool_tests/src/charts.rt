@@ -32,7 +32,7 @@ const DRAWN: [Row; 17] = [
     ("--line ffffffff line", 0, "", ">accepted 1</text>\n"),
     ("", 0, "", ">&lt;stdin&gt;</text>\n"),
     ("-", 0, "", ">accepted 0</text>\n"),
-    ("refused", 0, "", WRONG),
+    ("--no-side refused", 0, "", WRONG),
     ("--events 1..1 --line all two_lines", 0, "", LEFT_OUT),
     ("--events=2..9 --line all two_lines", 0, "", LEFT_OUT),
     ("--port 1 --line all two_lines", 0, "", LEFT_OUT),
@@ -42,7 +42,13 @@ const DRAWN: [Row; 17] = [
     ("--title a<b line", 0, "", ">a&lt;b</text>\n"),
 ];
 
-const UNDRAWN: [Row; 8] = [
+const UNDRAWN: [Row; 9] = [
+    (
+        "refused",
+        3,
+        "refused.side:3: malformed side line 3: S4\n",
+        "",
+    ),
     (
         "malformed",
         3,
@@ -201,13 +207,13 @@ fn it_is_noted_why_there_is_no_picture(rt: HostRuntime) -> Result<(), Fail> {
 
 #[test]
 fn pictures_are_written_into_files(rt: HostRuntime) -> Result<(), Fail> {
-    let answered = call(rt.alloc(), "refused -o x.svg", 50000)?;
+    let answered = call(rt.alloc(), "--no-side refused -o x.svg", 50000)?;
     let written = answered.status == 0
         && answered.out.bytes().is_empty()
         && answered.notes.bytes().is_empty()
         && has(answered.files.text.as_slice(), WRONG);
     drop(answered);
-    let answered = call(rt.alloc(), "refused -o full.svg", 50000)?;
+    let answered = call(rt.alloc(), "--no-side refused -o full.svg", 50000)?;
     let failed = answered.status == 5
         && answered.out.bytes().is_empty()
         && answered.notes.bytes() == b"write fault\n".as_slice();
@@ -242,7 +248,7 @@ fn the_usage_is_told(rt: HostRuntime) -> Result<(), Fail> {
 #[test]
 fn the_standard_output_fails(rt: HostRuntime) -> Result<(), Fail> {
     for room in [0, 1, 999] {
-        let answered = call(rt.alloc(), "refused", room)?;
+        let answered = call(rt.alloc(), "--no-side refused", room)?;
         let holds = answered.status == 5
             && answered.out.bytes().len() == room
             && answered.notes.bytes() == b"write fault\n".as_slice();

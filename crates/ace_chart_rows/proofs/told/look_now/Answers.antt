@@ -2,5 +2,5 @@ use Rattle.ace_portck.specs.Targets.{Recording}
 use Rattle.ace_chart_rows.proofs.told.look_now.Goals as goal
 
 pub returns : goal.returns
-returns c most h past b s =
-    let r : Recording = record { header = h; past = past } in c.look_on.ensures r (rw c.lines.ensures (c.shares.ensures most h past b s).lines)
+returns c most h past b s same =
+    let r : Recording = record { header = h; past = past } in c.look_on.ensures r (rw c.lines.ensures (c.shares.ensures most h past b s).lines) same

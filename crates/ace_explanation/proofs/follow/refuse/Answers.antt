@@ -16,6 +16,7 @@ returns-clause-breaks c lines past b stands loads journal since line row broken 
       refl,
       c.clause-found.ensures c.args.header past tell loads broken,
       c.expectation.ensures r ports kept system,
+      c.origin.ensures r ports kept since journal line,
       c.before_event.ensures r ports kept since,
       c.led.ensures c.args.header past c.args.event.now journal line row (c.next_transfers.ensures r ports),
     )

@@ -1,0 +1,4 @@
+pub mod Found
+pub mod Origins
+pub mod Texts
+pub mod Words

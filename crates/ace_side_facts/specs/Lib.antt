@@ -1,0 +1,4 @@
+pub mod Sayings
+pub mod Facts
+pub mod Gathering
+pub mod Gathered

@@ -1,9 +1,0 @@
-use Rattle.std.proofs.Common.{ap, sym, ◌∙◌}
-use Rattle.ace_tool.specs.Packing.{packing_of}
-use Rattle.ace_tool.proofs.FoundBytes.{finds_explanation}
-use Rattle.ace_tool.proofs.finding.find.Goals as goal
-
-pub returns-in-None-clause-found : goal.returns-in-None-clause-found
-returns-in-None-clause-found g c =
-    finds_explanation _ _ _ c.explanation_behind.result c.in-Ok.ensures.taken c.in-Ok.ensures.whole
-    (sym c.in-None.is ∙ c.packing_of.ensures ∙ ap packing_of c.as_slice.ensures.value) c.explanation_behind.ensures.right
